@@ -1,0 +1,60 @@
+-- Events: their order in the waiting heap, an edit applied, and a rewound source.
+use mathlib.Core.Bool.{Bool}
+use Prim.Native.Nat.{ℕ}
+use lib.Ieee.{nan}
+use Rattle.event.specs.declared.Event.{Event}
+use Rattle.event.specs.declared.Edit.{Edit}
+use Rattle.event.specs.declared.Unit.{Unit}
+use Rattle.event.specs.declared.StoredEdit.{StoredEdit}
+use Rattle.event.specs.declared.ReplayMode.{ReplayMode}
+use Rattle.event.specs.declared.Source.the-variants.{Held}
+use Rattle.event.specs.declared.Fade.the-variants.{Power}
+use Rattle.event.specs.Sources.{atStart}
+use Rattle.floats.specs.Sooner.{sooner}
+
+abbrev pub numberOf : Event → ℕ
+numberOf e = e .id .0
+
+-- by start, then by lower number
+abbrev pub earlier : Event → Event → Bool
+earlier a b = sooner (a .«start_time») (numberOf a) (b .«start_time») (numberOf b)
+
+-- an edit replaces end and fade-out
+abbrev pub editedBy : Edit → Event → Event
+editedBy d e = record {
+  «start_time» = e .«start_time»;
+  «end_time» = d .«end_time»;
+  «fade_ease» = e .«fade_ease»;
+  «fade_in» = e .«fade_in»;
+  «fade_out» = d .«fade_out»;
+  unit = e .unit;
+  id = e .id;
+}
+
+-- an event whose source stands elsewhere
+abbrev pub withUnit : Unit → Event → Event
+withUnit u e = record {
+  «start_time» = e .«start_time»;
+  «end_time» = e .«end_time»;
+  «fade_ease» = e .«fade_ease»;
+  «fade_in» = e .«fade_in»;
+  «fade_out» = e .«fade_out»;
+  unit = u;
+  id = e .id;
+}
+
+-- a reset rewinds the source
+abbrev pub rewound : Event → Event
+rewound e = withUnit (atStart (e .unit .source)) e
+
+-- what the logic reads past the end of an array of events
+abbrev pub blank : Event
+blank = record {
+  «start_time» = nan;
+  «end_time» = nan;
+  «fade_ease» = Power;
+  «fade_in» = nan;
+  «fade_out» = nan;
+  unit = record { source = Held nan; value = nan; place = 0 };
+  id = record { 0 = 0 };
+}

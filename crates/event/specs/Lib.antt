@@ -1,0 +1,5 @@
+pub mod Runs
+pub mod Fades
+pub mod Sources
+pub mod Events
+pub mod Numbers

@@ -1,0 +1,199 @@
+// Sources, fades and events: the data of src/sequencer.rs of fundsp. A source stands for its `Box<dyn AudioUnit>`.
+ghost use mathlib.Core.Path.{_≡_};
+ghost use Rattle.event.specs.Events.{editedBy, rewound, earlier};
+ghost use Rattle.event.specs.Fades.{curve};
+ghost use Rattle.event.specs.Sources.{firstValue, atStart, sampleOf, advanced};
+ghost use Rattle.floats.specs.Sooner.{sooner};
+use floats::Order;
+use math::sine_ease;
+use math::smooth5;
+
+// The number of an event. It never serves as a list place.
+pub struct EventId(pub u64);
+
+// Fade curves.
+pub enum Fade {
+    Power,
+    Smooth,
+}
+
+impl Fade {
+    // The fade curve at x.
+    pub fn at(self, x: f32) -> f32
+        ensures { λ r. ⌜ r ≡ curve self x ⌝ }
+    {
+        match self {
+            Fade::Power => sine_ease(x),
+            Fade::Smooth => smooth5(x),
+        }
+    }
+}
+
+// Whether events are replayed after a reset.
+pub enum ReplayMode {
+    All,
+    None,
+}
+
+// What an event plays: a held level; a ramp's first value and its step; a clip's offset and length in the pool.
+pub enum Source {
+    Held(f32),
+    Ramp(f32, f32),
+    Clip(u32, u32),
+}
+
+// A source with its place: a ramp's next value, and how many samples a clip has given.
+pub struct Unit {
+    pub source: Source,
+    pub value: f32,
+    pub place: u32,
+}
+
+fn first_value(source: Source) -> f32
+    ensures { λ r. ⌜ r ≡ firstValue source ⌝ }
+{
+    match source {
+        Source::Held(level) => level,
+        Source::Ramp(value, _) => value,
+        Source::Clip(_, _) => 0.0,
+    }
+}
+
+impl Unit {
+    // A source at its beginning.
+    pub fn new(source: Source) -> Unit
+        ensures { λ r. ⌜ r ≡ atStart source ⌝ }
+    {
+        let value = first_value(source);
+        Unit {
+            source: source,
+            value: value,
+            place: 0,
+        }
+    }
+
+    // The unit back at its source's beginning.
+    pub fn reset(self) -> Unit
+        ensures { λ r. ⌜ r ≡ atStart (self .source) ⌝ }
+    {
+        let source = self.source;
+        Unit::new(source)
+    }
+
+    // The next sample: 0.0 past the clip and past the pool.
+    pub fn sample(self, pool: &[f32]) -> f32
+        ensures { λ r. ⌜ r ≡ sampleOf (now (pool .entry)) self ⌝ }
+    {
+        let source = self.source;
+        match source {
+            Source::Held(level) => level,
+            Source::Ramp(_, _) => self.value,
+            Source::Clip(offset, length) => {
+                let place = self.place;
+                if place < length {
+                    let at = offset as usize + place as usize;
+                    if at < pool.len() {
+                        return pool[at];
+                    }
+                    return 0.0;
+                }
+                0.0
+            }
+        }
+    }
+
+    // The unit after one sample.
+    pub fn advance(mut self) -> Unit
+        ensures { λ r. ⌜ r ≡ advanced self ⌝ }
+    {
+        let source = self.source;
+        match source {
+            Source::Held(_) => self,
+            Source::Ramp(_, step) => {
+                self.value = self.value + step;
+                self
+            }
+            Source::Clip(_, length) => {
+                let place = self.place;
+                if place < length {
+                    self.place = place + 1;
+                }
+                self
+            }
+        }
+    }
+}
+
+// Whether (a, i) comes before (b, j), by start and then by lower number.
+fn is_sooner(a: f64, i: u64, b: f64, j: u64) -> bool
+    ensures { λ r. ⌜ r ≡ sooner a i b j ⌝ }
+{
+    let order = floats::total_cmp(a, b);
+    match order {
+        Order::Less => true,
+        Order::Equal => i < j,
+        Order::Greater => false,
+    }
+}
+
+// A scheduled source.
+pub struct Event {
+    pub start_time: f64,
+    pub end_time: f64,
+    pub fade_ease: Fade,
+    pub fade_in: f64,
+    pub fade_out: f64,
+    pub unit: Unit,
+    pub id: EventId,
+}
+
+// A change to an event.
+pub struct Edit {
+    pub end_time: f64,
+    pub fade_out: f64,
+}
+
+// An edit that is stored for the event of its number: an entry of the Rust's `edit_map`.
+pub struct StoredEdit {
+    pub id: EventId,
+    pub edit: Edit,
+}
+
+impl Event {
+    // The event with the edit's end and fade-out.
+    pub fn edited(mut self, edit: Edit) -> Event
+        ensures { λ r. ⌜ r ≡ editedBy edit self ⌝ }
+    {
+        self.end_time = edit.end_time;
+        self.fade_out = edit.fade_out;
+        self
+    }
+
+    // The event with its source at its beginning.
+    pub fn rewind(self) -> Event
+        ensures { λ r. ⌜ r ≡ rewound self ⌝ }
+    {
+        let unit = self.unit;
+        let unit = unit.reset();
+        let fade_ease = self.fade_ease;
+        let id = self.id;
+        Event {
+            start_time: self.start_time,
+            end_time: self.end_time,
+            fade_ease: fade_ease,
+            fade_in: self.fade_in,
+            fade_out: self.fade_out,
+            unit: unit,
+            id: id,
+        }
+    }
+
+    // Whether the event leaves the waiting heap before the other.
+    pub fn precedes(self, other: Event) -> bool
+        ensures { λ r. ⌜ r ≡ earlier self other ⌝ }
+    {
+        let i = self.id;
+        let j = other.id;
+        is_sooner(self.start_time, i.0, other.start_time, j.0)
+    }
+}

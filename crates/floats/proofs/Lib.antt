@@ -1,0 +1,5 @@
+mod Rounding
+mod Fields
+mod Patterns
+mod Index
+mod Compared

@@ -1,0 +1,13 @@
+pub mod Arithmetic
+pub mod Floats
+pub mod Scaled
+pub mod Closest
+pub mod Values
+pub mod Pack
+pub mod Grid
+pub mod Nearest
+pub mod NearestProof
+pub mod TotalOrder
+pub mod Cases
+pub mod IndexNearest
+pub mod Sooner
