@@ -1,0 +1,143 @@
+-- Document 01, "Block samples": what the sounding events add to a block, and where their sources stand after it. A channel is a list of samples; one faded run serves every channel.
+use Prim.Native.Nat.{ℕ, zero, suc, _-_, min}
+use mathlib.Core.Bool.{Bool, true, false, _&&_, cond}
+use mathlib.Core.List.{List, [], _∷_, _++_}
+use mathlib.Core.Option.{Option, none, some}
+use lib.Dec.{ltb}
+use lib.ListN.{length, take, drop}
+use lib.Ieee.{Float, ofBits, round, add, sub, mul, div, lt, le}
+use Rattle.floats.specs.Arithmetic.{_+ᵈ_, _-ᵈ_, _×ᵈ_, _÷ᵈ_, _+ˢ_, _-ˢ_, _×ˢ_, _<ᶠ_, _≤ᶠ_, zeroᶠ, oneᶠ, whole}
+use Rattle.floats.specs.Floats.{narrowed, index}
+use Rattle.math.specs.Curves.{delerped}
+use Rattle.event.specs.declared.Event.{Event}
+use Rattle.event.specs.declared.Fade.{Fade}
+use Rattle.event.specs.Events.{withUnit}
+use Rattle.event.specs.Fades.{curve}
+use Rattle.event.specs.Runs.{made, steps}
+use Rattle.event.specs.Sources.{given, advancedBy}
+
+-- A block of n samples from clock t up to e, at rate r and sample duration d
+pub record Span : Type 0 where
+  pub size : ℕ  -- n
+  pub clock : Float  -- t
+  pub upto : Float  -- e
+  pub rate : Float  -- r
+  pub duration : Float  -- d
+
+-- ---- where an event sounds in the block
+
+-- s = 0 if start ≤ t, else index((start - t) × r), at most n
+unfoldable pub firstPlace : Span → Event → ℕ
+unfolding le sub mul index
+firstPlace b e = cond (e .«start_time» ≤ᶠ b .clock) 0 (min (b .size) (index ((e .«start_time» -ᵈ b .clock) ×ᵈ b .rate)))
+
+-- z = n if end ≥ e, else index((end - t) × r), at most n
+unfoldable pub endPlace : Span → Event → ℕ
+unfolding le sub mul index
+endPlace b e = cond (b .upto ≤ᶠ e .«end_time») (b .size) (min (b .size) (index ((e .«end_time» -ᵈ b .clock) ×ᵈ b .rate)))
+
+-- ---- The fades, as in the Rust's `fade_in` and `fade_out`: their places count from the block's edge, and are used in the scratch.
+
+-- A run with its places from `from` up to, not including, `to` multiplied by the curve, at `phase` and then one `step` further for each. A rising fade takes the curve at the phase, a falling one at 1 - phase.
+unfoldable pub faded : Fade → (rising : Bool) → (from to : ℕ) → (phase step : Float) → List Float → List Float
+unfolding add sub mul curve
+faded c rising from to phase step [] = []
+faded c rising (suc from) to phase step (x ∷ l) = x ∷ faded c rising from (to - 1) phase step l
+faded c rising zero zero phase step (x ∷ l) = x ∷ l
+faded c rising zero (suc to) phase step (x ∷ l) =
+    x ×ˢ curve c (cond rising phase (oneᶠ -ˢ phase)) ∷ faded c rising zero to (phase +ˢ step) step l
+
+-- where a fade-in ends: z if that is at the block's end or later, else index((start + fade-in - t) / d), at most 64
+unfoldable pub fadeInPlace : Span → (z : ℕ) → Event → ℕ
+unfolding le add sub div index
+fadeInPlace b z e =
+    let top = e .«start_time» +ᵈ e .«fade_in» in
+    cond (b .upto ≤ᶠ top) z (min 64 (index ((top -ᵈ b .clock) ÷ᵈ b .duration)))
+
+-- where a fade-out starts: 0 if that is at t or before, else index((end - fade-out - t) / d), at most 64
+unfoldable pub fadeOutPlace : Span → Event → ℕ
+unfolding le sub div index
+fadeOutPlace b e =
+    let bottom = e .«end_time» -ᵈ e .«fade_out» in
+    cond (bottom ≤ᶠ b .clock) 0 (min 64 (index ((bottom -ᵈ b .clock) ÷ᵈ b .duration)))
+
+-- `fade_in`, from scratch place 0 with the phase of block place s
+unfoldable pub runFadedIn : Span → (s z : ℕ) → Event → List Float → List Float
+unfolding add mul div lt delerped narrowed round whole faded fadeInPlace
+runFadedIn b s z e l =
+    let top = e .«start_time» +ᵈ e .«fade_in» in
+    cond (zeroᶠ <ᶠ e .«fade_in» && b .clock <ᶠ top)
+    (faded (e .«fade_ease») true 0 (fadeInPlace b z e)
+    (narrowed (delerped (e .«start_time») top (b .clock +ᵈ whole s ×ᵈ b .duration)))
+    (narrowed (b .duration ÷ᵈ e .«fade_in»)) l)
+    l
+
+-- `fade_out`, from its place up to z; one that starts after z fades nothing
+unfoldable pub runFadedOut : Span → (z : ℕ) → Event → List Float → List Float
+unfolding add sub mul div lt delerped narrowed round whole faded fadeOutPlace
+runFadedOut b z e l =
+    let bottom = e .«end_time» -ᵈ e .«fade_out» in
+    let i = fadeOutPlace b e in
+    cond (zeroᶠ <ᶠ e .«fade_out» && bottom <ᶠ b .upto)
+    (faded (e .«fade_ease») false i z
+    (narrowed (delerped bottom (e .«end_time») (b .clock +ᵈ whole i ×ᵈ b .duration)))
+    (narrowed (b .duration ÷ᵈ e .«fade_out»)) l)
+    l
+
+-- the source's z - s samples with both fades
+abbrev pub fadedRun : (pool : List Float) → Span → (s z : ℕ) → Event → List Float
+fadedRun pool b s z e = runFadedOut b z e (runFadedIn b s z e (given pool (e .unit) (z - s)))
+
+-- ---- One event. If z > s its run is added to the channel at s + k, the scratch holds the run, and the source has moved on by z - s.
+
+-- a run added to a channel from place s on
+unfoldable pub addAt : (s : ℕ) → (run channel : List Float) → List Float
+unfolding add
+addAt s run [] = []
+addAt (suc s) run (x ∷ l) = x ∷ addAt s run l
+addAt zero [] (x ∷ l) = x ∷ l
+addAt zero (y ∷ run) (x ∷ l) = (x +ˢ y) ∷ addAt zero run l
+
+unfoldable pub channelAfter : (pool : List Float) → Span → Event → (channel : List Float) → List Float
+unfolding add ofBits made steps firstPlace endPlace runFadedIn runFadedOut addAt
+channelAfter pool b e channel =
+    let s = firstPlace b e in
+    let z = endPlace b e in
+    cond (ltb s z) (addAt s (fadedRun pool b s z e) channel) channel
+
+unfoldable pub scratchAfter : (pool : List Float) → Span → Event → (scratch : List Float) → List Float
+unfolding add ofBits made steps firstPlace endPlace runFadedIn runFadedOut
+scratchAfter pool b e scratch =
+    let s = firstPlace b e in
+    let z = endPlace b e in
+    cond (ltb s z) (fadedRun pool b s z e) scratch
+
+unfoldable pub afterBlock : Span → Event → Event
+unfolding add ofBits made steps firstPlace endPlace
+afterBlock b e =
+    let s = firstPlace b e in
+    let z = endPlace b e in
+    cond (ltb s z) (withUnit (advancedBy (e .unit) (z - s)) e) e
+
+-- ---- all sounding events, in S order: one channel, the last run given (each channel of a scratch has the same), and the events after the block
+
+pub record BlockSum : Type 0 where
+  pub channel : List Float
+  pub scratch : List Float
+  pub events : List Event
+
+unfoldable pub blockSum : (pool : List Float) → Span → List Event → (channel scratch : List Float) → BlockSum
+unfolding channelAfter scratchAfter afterBlock
+blockSum pool b [] channel scratch = record { channel = channel; scratch = scratch; events = [] }
+blockSum pool b (e ∷ l) channel scratch =
+    let r = blockSum pool b l (channelAfter pool b e channel) (scratchAfter pool b e scratch) in
+    record { channel = r .channel; scratch = r .scratch; events = afterBlock b e ∷ r .events }
+
+-- ---- a lent list of c channels, 64 samples each: the first places of every channel written over, the rest remains
+unfoldable pub overlay : (c : ℕ) → (run lent : List Float) → List Float
+overlay zero run l = l
+overlay (suc c) run l = run ++ (drop (length run) (take 64 l) ++ overlay c run (drop 64 l))
+
+abbrev pub overlayScratch : (c : ℕ) → (run : List Float) → Option (List Float) → Option (List Float)
+overlayScratch c run none = none
+overlayScratch c run (some l) = some (overlay c run l)

@@ -1,0 +1,94 @@
+-- A refused call changes nothing, lent lists included; and a call that is not refused passed all its checks. Assumes nothing.
+use Prim.Native.Nat.{ℕ}
+use mathlib.Core.Path.{_≡_, refl}
+use mathlib.Core.Bool.{Bool, true, false, not}
+use mathlib.Core.List.{List, [], _∷_}
+use mathlib.Core.Option.{Option, none, some}
+use native.Mathlib.Omega.{arith}
+use lib.Dec.{T}
+use lib.Ieee.{Float}
+use Rattle.event.specs.declared.Edit.{Edit}
+use Rattle.floats.specs.Arithmetic.{_<ᶠ_}
+use Rattle.ledger.specs.Calls.{Call, push, edit, tick, block, rate, reset, Answer, number, applied, past, stored, done, refused}
+use Rattle.ledger.specs.Lists.{has}
+use Rattle.ledger.specs.Ledger.{Ledger}
+use Rattle.ledger.specs.Refusals.{Check, refuses, firstOf, refusal, editEnd}
+use Rattle.ledger.specs.Steps.{Outcome, change, accept, refusedReply, decide, step}
+
+-- ---- what is lent to a call to be written
+
+abbrev pub lentOut : Call → List Float
+lentOut (push kind start end fade-in fade-out curve source) = []
+lentOut (edit kind n end fade-out) = []
+lentOut (tick pool out) = out
+lentOut (block n pool out scratch) = out
+lentOut (rate r) = []
+lentOut reset = []
+
+abbrev pub lentScratch : Call → Option (List Float)
+lentScratch (push kind start end fade-in fade-out curve source) = none
+lentScratch (edit kind n end fade-out) = none
+lentScratch (tick pool out) = none
+lentScratch (block n pool out scratch) = scratch
+lentScratch (rate r) = none
+lentScratch reset = none
+
+-- ---- a call that is answered with a refusal
+
+pub record Unchanged (l : Ledger) (c : Call) (o : Outcome) : Type 0 where
+  pub ledger : o .ledger ≡ l
+  pub out : o .reply .out ≡ lentOut c
+  pub scratch : o .reply .scratch ≡ lentScratch c
+
+-- a refusal is the only answer that has a number of document 01's list
+abbrev refusedWith : Answer → Option ℕ
+refusedWith (number k) = none
+refusedWith applied = none
+refusedWith past = none
+refusedWith stored = none
+refusedWith done = none
+refusedWith (refused k) = some k
+
+change-accepts : (l : Ledger) (k : ℕ) (d : Edit) (a b : Bool) → refusedWith (change l k d a b .reply .answer) ≡ none
+unfolding change
+change-accepts l k d true b = refl
+change-accepts l k d false true = refl
+change-accepts l k d false false = refl
+
+accepts : (l : Ledger) (c : Call) → refusedWith (accept l c .reply .answer) ≡ none
+unfolding accept
+accepts l (push kind start end fade-in fade-out curve source) = refl
+accepts l (edit kind k end fade-out) =
+    change-accepts l k (record { «end_time» = editEnd kind (l .clock) end; «fade_out» = fade-out }) (has k (l .sounding)) (editEnd kind (l .clock) end <ᶠ l .threshold)
+accepts l (tick pool out) = refl
+accepts l (block n pool out scratch) = refl
+accepts l (rate r) = refl
+accepts l reset = refl
+
+unchanged : (l : Ledger) (c : Call) (k : ℕ) → Unchanged l c (record { ledger = l; reply = refusedReply k c })
+unchanged l (push kind start end fade-in fade-out curve source) k = record { ledger = refl; out = refl; scratch = refl }
+unchanged l (edit kind n end fade-out) k = record { ledger = refl; out = refl; scratch = refl }
+unchanged l (tick pool out) k = record { ledger = refl; out = refl; scratch = refl }
+unchanged l (block n pool out scratch) k = record { ledger = refl; out = refl; scratch = refl }
+unchanged l (rate r) k = record { ledger = refl; out = refl; scratch = refl }
+unchanged l reset k = record { ledger = refl; out = refl; scratch = refl }
+
+pub refused-unchanged : (l : Ledger) (c : Call) (k : ℕ) → step l c .reply .answer ≡ refused k → Unchanged l c (step l c)
+unfolding step
+refused-unchanged l c k h = go (refusal l c) h
+  where
+    go : (o : Option ℕ) → decide o l c .reply .answer ≡ refused k → Unchanged l c (decide o l c)
+    go (some j) h = unchanged l c j
+    go none h = absurd (let r = accepts l c in let z : _≡_ {A = ℕ} 0 1 = cc in omega arith)
+
+-- ---- a call that no refusal names
+
+abbrev pub AllPass : List Check → Type 0
+AllPass [] = Unit {0}
+AllPass (refuses k b ∷ l) = T (not b) × AllPass l
+
+pub all-pass : (l : List Check) → firstOf l ≡ none → AllPass l
+unfolding firstOf
+all-pass [] h = tt
+all-pass (refuses k true ∷ l) h = absurd (let z : _≡_ {A = ℕ} 0 1 = cc in omega arith)
+all-pass (refuses k false ∷ l) h = (tt, all-pass l h)

@@ -1,0 +1,9 @@
+pub mod Search
+pub mod Index
+pub mod Edits
+pub mod Holds
+pub mod Numbered
+pub mod Sounding
+pub mod OneEdit
+pub mod EditList
+pub mod Cases

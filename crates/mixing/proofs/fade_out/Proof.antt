@@ -1,0 +1,27 @@
+-- `mixing::fade_out` meets its contract. Assumes nothing.
+use lib.Ieee.{ofBits}
+use Rattle.floats.specs.Arithmetic.{whole-is}
+use Rattle.ledger.specs.BlockSamples.{runFadedOut}
+use borrow.Author.Needs.{needs}
+use Rattle.mixing.proofs.fade_out.Statement.{statement}
+use Rattle.mixing.proofs.fade_out.Tie as tie
+
+returns : tie.Need-returns
+unfolding runFadedOut ofBits
+returns c =
+    rw (c .before .before .before .before .before .before .before .before .before .before .before .before .before .before .before .if1 .taken, c .before .before .before .before .before .before .before .before .before .before .before .before .before .if2 .taken, ← c .before .before .before .before .before .before .before .before .before .before .before .before .fade-out-place .ensures, whole-is (c .before .before .before .before .before .before .before .before .before .before .before .before .fade-out-place .result), ← c .before .before .before .before .before .before .before .before .before .before .before .nearest-u64-to-f64 .ensures, ← c .before .before .before .before .before .before .before .before .delerp .ensures, ← c .before .before .before .before .before .before .before .narrow .ensures, ← c .before .before .before .before .narrow2 .ensures)
+    (c .before .before .fade .ensures)
+
+returns-2 : tie.Need-returns-2
+unfolding runFadedOut ofBits
+returns-2 c = rw (c .before .before .if1 .taken, c .if2 .left)
+
+returns-3 : tie.Need-returns-3
+unfolding runFadedOut ofBits
+returns-3 c = rw (c .if1 .left)
+
+pub fade-out-spec : {M : Type 1} → statement M
+fade-out-spec =
+    tie.close
+    (tie.spec (λ c κs. search needs) (λ c κs. search needs) (λ c κs. search needs) (λ c κs. search needs) (λ c κs. search needs)
+    (λ c κs. search needs) (λ c. search needs) returns returns-2 returns-3)

@@ -1,0 +1,17 @@
+-- `mixing::fade_out_place` meets its contract. Assumes nothing.
+use Rattle.ledger.specs.BlockSamples.{fadeOutPlace}
+use borrow.Author.Needs.{needs}
+use Rattle.mixing.proofs.fade_out_place.Statement.{statement}
+use Rattle.mixing.proofs.fade_out_place.Tie as tie
+
+returns : tie.Need-returns
+unfolding fadeOutPlace
+returns c = rw (c .if1 .taken)
+
+returns-2 : tie.Need-returns-2
+unfolding fadeOutPlace
+returns-2 c = rw (c .before .before .before .before .if1 .left, ← c .before .sample-index .ensures) (c .least .ensures)
+
+pub fade-out-place-spec : {M : Type 1} → statement M
+fade-out-place-spec = tie.close
+    (tie.spec returns (λ c κs. search needs) (λ c κs. search needs) returns-2)

@@ -1,0 +1,10 @@
+pub mod Sift
+pub mod Waiting
+pub mod Steps
+pub mod HeapOrder
+pub mod Sorted
+pub mod Stands
+pub mod Keeps
+pub mod EventSet
+pub mod Waits
+pub mod Cases

@@ -1,0 +1,60 @@
+-- W, the ledger's sorted list of waiting events: what its `insert` keeps. Assumes nothing.
+use mathlib.Core.Bool.{Bool, true, false, cond, Bool-set}
+use mathlib.Core.Path.{_≡_, refl, sym, ap, _∙_}
+use mathlib.Core.Logic.{⊎-elim, ∥∥₁-elim}
+use mathlib.Core.List.{List, [], _∷_, List·Memᴰ, List·Memᴰ·head, List·Memᴰ·tail, List·Memᴰ·not-nil, List·Memᴰ·cases-cons, Perm, Perm·refl, Perm·cons, Perm·swap, Perm·trans, Perm·subset}
+use Prim.Native.Nat.{ℕ, _<_}
+use lib.Dec.{ltb}
+use lib.Ieee.{Float}
+use borrow.Author.Tests.{lt-ltb}
+use Rattle.floats.specs.TotalOrder.{totalLess-irreflexive}
+use Rattle.floats.specs.Sooner.{sooner, sooner-asymmetric, sooner-transitive, not-sooner-transitive, sooner-total}
+use Rattle.event.specs.declared.Event.{Event}
+use Rattle.event.specs.Events.{earlier, numberOf}
+use Rattle.ledger.specs.Lists.{insert}
+use Rattle.ledger.specs.Sorted.{Sorted}
+use Rattle.ready.specs.HeapOrder.{Order}
+
+-- ---- the order of two events
+
+-- of equal starts the lower number comes first
+by-number : (x : Float) (i j : ℕ) → sooner x i x j ≡ ltb i j
+unfolding sooner
+by-number x i j = rw (totalLess-irreflexive x)
+
+pub equal-starts : (a b : Event) → a .«start_time» ≡ b .«start_time» → numberOf a < numberOf b → earlier a b ≡ true
+equal-starts a b s n =
+    ap (λ (x : Float). sooner (a .«start_time») (numberOf a) x (numberOf b)) (sym s) ∙ by-number (a .«start_time») (numberOf a) (numberOf b) ∙ lt-ltb (numberOf a) (numberOf b) n
+
+-- it is an order that a heap can go by
+pub earlier-order : Order earlier
+earlier-order = record {
+  asym = λ a b. sooner-asymmetric (a .«start_time») (numberOf a) (b .«start_time») (numberOf b);
+  on = λ a b c. not-sooner-transitive (a .«start_time») (numberOf a) (b .«start_time») (numberOf b) (c .«start_time») (numberOf c);
+}
+
+-- ---- the sorted list
+
+pub insert-perm : (e : Event) (w : List Event) → Perm (insert e w) (e ∷ w)
+unfolding insert
+insert-perm e [] = Perm·refl (e ∷ [])
+insert-perm e (f ∷ w) = go (insert-perm e w) (earlier e f)
+  where
+    go : Perm (insert e w) (e ∷ w) → (b : Bool) → Perm (cond b (e ∷ f ∷ w) (f ∷ insert e w)) (e ∷ f ∷ w)
+    go ih true = Perm·refl (e ∷ f ∷ w)
+    go ih false = Perm·trans (Perm·cons f ih) (Perm·swap e f w)
+
+-- an event with a number of its own leaves the list sorted
+pub insert-sorted : (e : Event) (w : List Event) → ((f : Event) → List·Memᴰ f w → numberOf e ≡ numberOf f → ⊥) → Sorted w → Sorted (insert e w)
+unfolding insert
+insert-sorted e [] new s = (λ y m. absurd (List·Memᴰ·not-nil m), tt)
+insert-sorted e (f ∷ w) new s = go (insert-sorted e w (λ y m. new y (List·Memᴰ·tail m)) (s .1)) (earlier e f) refl
+  where
+    go : Sorted (insert e w) → (b : Bool) → earlier e f ≡ b → Sorted (cond b (e ∷ f ∷ w) (f ∷ insert e w))
+    go ih true q =
+        (λ y m. ⊎-elim (λ k. rw k q) (λ k. sooner-transitive (e .«start_time») (numberOf e) (f .«start_time») (numberOf f) (y .«start_time») (numberOf y) q (s .0 y k)) (List·Memᴰ·cases-cons m), s)
+    go ih false q = (
+      λ y m. ∥∥₁-elim (Perm·subset (insert-perm e w) y ∣ m ∣₁) (Bool-set _ _)
+          (λ d. ⊎-elim (λ k. rw k (sooner-total (e .«start_time») (numberOf e) (f .«start_time») (numberOf f) (new f (List·Memᴰ·head refl)) q)) (λ k. s .0 y k) (List·Memᴰ·cases-cons d)),
+      ih,
+    )

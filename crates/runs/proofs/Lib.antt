@@ -1,0 +1,5 @@
+pub mod Turns
+pub mod Walks
+pub mod Given
+pub mod Fades
+pub mod Rows

@@ -1,0 +1,69 @@
+//! Compares the port's C entry, linked from its static library, with the oracle's bytes.
+
+use oracle::compare::{Options, compare};
+use oracle::render::render as expected_render;
+use oracle::session::{TRAIL_POOL, pool};
+use oracle::tape::Format;
+use std::process::ExitCode;
+
+unsafe extern "C" {
+    /// Renders a lent tape into a lent byte slice; the count of bytes written.
+    fn render(tape: *const u8, tape_length: usize, out: *mut u8, out_length: usize) -> usize;
+}
+
+/// What the lent bytes hold before a call, so that those left alone show.
+const MARK: u8 = 0xA5;
+
+fn main() -> ExitCode {
+    let arguments: Vec<String> = std::env::args().skip(1).collect();
+    match run(&arguments) {
+        Ok(line) => {
+            println!("{line}");
+            ExitCode::SUCCESS
+        }
+        Err(report) => {
+            eprintln!("{report}");
+            ExitCode::FAILURE
+        }
+    }
+}
+
+fn run(arguments: &[String]) -> Result<String, String> {
+    let usable = |profile: &oracle::generate::Profile| profile.format == Format::Tape;
+    let (options, rest) = Options::read(arguments, usable)?;
+    if !rest.is_empty() {
+        return Err("usage: compare-c [--tapes N] [--seed S] [--profile P]..".into());
+    }
+    let pool = pool(TRAIL_POOL);
+    // Room for the longest tape's samples: 64 of 8 channels for each record.
+    let mut room = Vec::new();
+    let compared = compare(&options, |tape| {
+        room.resize(4 * 64 * 8 * tape.len(), MARK);
+        let whole = expected_render(tape, &mut room, &pool);
+        room.clear();
+        let lengths = [whole + 5, whole, whole.saturating_sub(1), whole / 2, 0];
+        lengths.into_iter().find_map(|length| {
+            let mut expected = vec![MARK; length];
+            let mut got = expected.clone();
+            let expected_count = expected_render(tape, &mut expected, &pool);
+            // Safety: both slices are lent for the call, with their lengths.
+            let count = unsafe { render(tape.as_ptr(), tape.len(), got.as_mut_ptr(), got.len()) };
+            difference(length, (expected_count, &expected), (count, &got))
+        })
+    })?;
+    Ok(format!(
+        "compare-c: {} tapes, {} records, 0 differences",
+        compared.tapes, compared.records
+    ))
+}
+
+fn difference(length: usize, expected: (usize, &[u8]), got: (usize, &[u8])) -> Option<String> {
+    if expected == got {
+        return None;
+    }
+    let place = expected.1.iter().zip(got.1).position(|(a, b)| a != b);
+    Some(format!(
+        "{length} bytes lent: expected count {}, got {}; first different byte: {place:?}",
+        expected.0, got.0
+    ))
+}

@@ -1,0 +1,670 @@
+//! Random short lists of calls, with what the original answers, writes and holds after each, as the
+//! Rattle file crates/ledger_trials/specs/RandomLists.antt. The same file at every run.
+//!
+//! Usage: ledgerlists > crates/ledger_trials/specs/RandomLists.antt
+
+use oracle::call::{Call, Curve, Edit, Mode, Push, PushKind, Source, Timing};
+use oracle::engine::Engine;
+use oracle::player::{Answer, BLOCK, Player, Pool};
+use oracle::state::{EventState, State, sample_bits};
+use std::fmt::Write;
+
+/// How many lists there are, and how many of them one theorem covers.
+const LISTS: usize = 110;
+const GROUP: usize = 10;
+const SEED: u64 = 20_260_101;
+
+/// What lent memory holds before a call.
+const LENT: f32 = 0.25;
+
+/// The pool that is lent to every tick and block.
+const POOL: [f32; 7] = [0.5, -0.75, 1.5, 0.1, -2.0, 0.3, 1.0];
+
+const RATES: &[f64] = &[
+    8.0, 8.0, 8.0, 10.0, 3.0, 7.0, 1.0, 44_100.0, 48_000.0, 999.999,
+];
+const LEVELS: &[f32] = &[1.0, 1.0, 0.5, -1.0, 0.1, 3.0, 1e-3, 0.0, -0.0, 0.7];
+const TINY: &[f64] = &[5e-324, 1e-300, 1e-17, -1.0, -0.0];
+const WILD_TIMES: &[f64] = &[
+    f64::NAN,
+    f64::INFINITY,
+    f64::NEG_INFINITY,
+    1e9,
+    -1e9,
+    1_000_000_000.000_000_1,
+    1e300,
+];
+const WILD_SAMPLES: &[f32] = &[f32::NAN, f32::INFINITY, f32::NEG_INFINITY, f32::MAX];
+const WILD_RATES: &[f64] = &[0.0, 0.999, 1_000_001.0, f64::NAN, -8.0, f64::INFINITY, 1e6];
+
+/// A small deterministic random generator: splitmix64.
+struct Random(u64);
+
+impl Random {
+    fn next(&mut self) -> u64 {
+        self.0 = self.0.wrapping_add(0x9E37_79B9_7F4A_7C15);
+        let mut x = self.0;
+        x = (x ^ (x >> 30)).wrapping_mul(0xBF58_476D_1CE4_E5B9);
+        x = (x ^ (x >> 27)).wrapping_mul(0x94D0_49BB_1331_11EB);
+        x ^ (x >> 31)
+    }
+
+    fn below(&mut self, limit: u64) -> u64 {
+        self.next() % limit
+    }
+
+    /// A number from `low` to `high`, both included.
+    fn between(&mut self, low: i64, high: i64) -> i64 {
+        low + self.below((high - low + 1) as u64) as i64
+    }
+
+    fn chance(&mut self, percent: u64) -> bool {
+        self.below(100) < percent
+    }
+
+    fn pick<T: Copy>(&mut self, items: &[T]) -> T {
+        items[self.below(items.len() as u64) as usize]
+    }
+}
+
+/// One list: the engine plays each call as it is drawn, so that times lie round the clock.
+struct Trial<'a> {
+    random: &'a mut Random,
+    engine: Engine,
+    pool: Pool,
+    first: u64,
+    /// Each call with what it must give back.
+    calls: Vec<String>,
+}
+
+// ---- drawing
+
+impl Trial<'_> {
+    fn clock(&self) -> f64 {
+        f64::from_bits(self.engine.state().clock)
+    }
+
+    /// A length of time in half samples, now and then a neighbour of it.
+    fn half_samples(&mut self, count: i64) -> f64 {
+        let length = count as f64 * 0.5 / f64::from_bits(self.engine.state().rate);
+        match self.random.below(16) {
+            0 => length.next_up(),
+            1 => length.next_down(),
+            2 => length * 1.1,
+            _ => length,
+        }
+    }
+
+    fn duration(&mut self) -> f64 {
+        match self.random.below(8) {
+            0 => f64::INFINITY,
+            1 => {
+                let count = self.random.between(0, 2);
+                self.half_samples(count)
+            }
+            _ => {
+                let count = self.random.between(1, 30);
+                self.half_samples(count)
+            }
+        }
+    }
+
+    /// A fade that an event of this length may have.
+    fn fade(&mut self, length: f64) -> f64 {
+        let fade = match self.random.below(8) {
+            0..=2 => 0.0,
+            3 => length,
+            4 => self.random.pick(TINY),
+            _ => {
+                let count = self.random.between(1, 12);
+                self.half_samples(count)
+            }
+        };
+        if fade <= length && fade.is_finite() {
+            fade
+        } else {
+            0.0
+        }
+    }
+
+    fn level(&mut self) -> f32 {
+        if self.random.chance(3) {
+            self.random.pick(WILD_SAMPLES)
+        } else {
+            self.random.pick(LEVELS)
+        }
+    }
+
+    fn source(&mut self) -> Source {
+        match self.random.below(3) {
+            0 => Source::Held {
+                level: self.level(),
+            },
+            1 => Source::Ramp {
+                value: self.level(),
+                step: self.level(),
+            },
+            _ => Source::Clip {
+                offset: self.random.pick(&[0, 0, 1, 3, 6, 7, u32::MAX]),
+                length: self.random.pick(&[0, 2, 5, 9, u32::MAX]),
+            },
+        }
+    }
+
+    fn push(&mut self) -> Call {
+        let kind = self.random.pick(&[
+            PushKind::Absolute,
+            PushKind::Absolute,
+            PushKind::Relative,
+            PushKind::Duration,
+        ]);
+        let count = self
+            .random
+            .pick(&[0, 0, 0, 0, 1, 1, -1, -1, 2, 3, 4, 8, 13, -7]);
+        let offset = self.half_samples(count);
+        let mut start = match kind {
+            PushKind::Relative => offset,
+            _ => self.clock() + offset,
+        };
+        if self.random.chance(6) {
+            start = self.random.pick(&[0.0, -0.0, -1.0]);
+        }
+        let duration = self.duration();
+        let mut end = match kind {
+            PushKind::Duration => duration,
+            _ => start + duration,
+        };
+        let length = match kind {
+            PushKind::Duration => (start + duration) - start,
+            _ => end - start,
+        };
+        let (mut fade_in, mut fade_out) = (self.fade(length), self.fade(length));
+        if self.random.chance(5) {
+            let value = self.random.pick(WILD_TIMES);
+            match self.random.below(4) {
+                0 => start = value,
+                1 => end = value,
+                2 => fade_in = value,
+                _ => fade_out = value,
+            }
+        }
+        if self.random.chance(3) {
+            fade_out = length.next_up();
+        }
+        let curve = self.random.pick(&[Curve::Power, Curve::Smooth]);
+        let source = self.source();
+        Call::Push(
+            kind,
+            Push {
+                start,
+                end,
+                fade_in,
+                fade_out,
+                curve,
+                source,
+            },
+            0,
+        )
+    }
+
+    fn edit(&mut self) -> Call {
+        let timing = self.random.pick(&[Timing::Absolute, Timing::Relative]);
+        let next = self.engine.state().next;
+        let number = match self.random.below(6) {
+            0 => next,
+            1 => self.random.pick(&[0, 7, u64::MAX]),
+            _ => {
+                let given = next.wrapping_sub(self.first);
+                self.first.wrapping_add(self.random.below(given.max(1)))
+            }
+        };
+        let offset = match self.random.below(6) {
+            0 => f64::INFINITY,
+            1 => {
+                let count = self.random.between(-9, 2);
+                self.half_samples(count)
+            }
+            _ => {
+                let count = self.random.between(0, 24);
+                self.half_samples(count)
+            }
+        };
+        let mut end = match timing {
+            Timing::Absolute => self.clock() + offset,
+            Timing::Relative => offset,
+        };
+        let mut fade_out = self.fade(f64::INFINITY);
+        if self.random.chance(6) {
+            let value = self.random.pick(WILD_TIMES);
+            if self.random.chance(50) {
+                end = value;
+            } else {
+                fade_out = value;
+            }
+        }
+        Call::Edit(
+            timing,
+            Edit {
+                number,
+                end,
+                fade_out,
+            },
+        )
+    }
+
+    fn block(&mut self) -> Call {
+        let whole = (BLOCK * self.engine.channels()) as u16;
+        // Long blocks are rare: the logic computes each sample.
+        let size = match self.random.below(40) {
+            0 => 64,
+            1 | 2 => 65,
+            3 | 4 => 0,
+            5 | 6 => self.random.between(9, 20) as u8,
+            _ => self.random.between(1, 8) as u8,
+        };
+        let output = if self.random.chance(6) {
+            self.random.pick(&[0, whole - 1, whole + 64])
+        } else {
+            whole
+        };
+        let wrong = Some(self.random.pick(&[0, whole - 1, whole + 1]));
+        let scratch = self.random.pick(&[
+            None,
+            None,
+            None,
+            Some(whole),
+            Some(whole),
+            Some(whole),
+            Some(whole),
+            Some(whole),
+            Some(whole),
+            Some(whole),
+            wrong,
+        ]);
+        Call::BlockLent(size, output, scratch)
+    }
+
+    fn tick(&mut self) -> Call {
+        let channels = self.engine.channels() as u16;
+        Call::TickLent(if self.random.chance(8) {
+            self.random.pick(&[0, channels - 1, channels + 1])
+        } else {
+            channels
+        })
+    }
+
+    fn call(&mut self) -> Call {
+        match self.random.below(100) {
+            0..26 => self.push(),
+            26..44 => self.edit(),
+            44..67 => self.tick(),
+            67..88 => self.block(),
+            88..93 => Call::Reset,
+            _ => {
+                let rates = if self.random.chance(20) {
+                    WILD_RATES
+                } else {
+                    RATES
+                };
+                Call::Rate(self.random.pick(rates))
+            }
+        }
+    }
+}
+
+// ---- playing
+
+impl Trial<'_> {
+    fn play(&mut self, call: &Call) {
+        let want = match *call {
+            Call::Push(kind, ref push, _) => says(self.engine.push(kind, push)),
+            Call::Edit(timing, ref edit) => says(self.engine.edit(timing, edit)),
+            Call::Reset => says(self.engine.reset()),
+            Call::Rate(rate) => says(self.engine.rate(rate)),
+            Call::TickLent(length) => self.play_tick(length.into()),
+            Call::BlockLent(size, output, scratch) => {
+                self.play_block(size, output.into(), scratch.map(usize::from))
+            }
+            _ => unreachable!("`call` draws no other"),
+        };
+        self.calls.push(format!("({}, {want})", call_text(call)));
+    }
+
+    fn play_tick(&mut self, length: usize) -> String {
+        let mut output = vec![LENT; length];
+        let answer = self.engine.tick(&mut output, &self.pool);
+        if answer.refusal() != 0 {
+            untouched(&output);
+            return says(answer);
+        }
+        same_channels(&output, 1);
+        format!(
+            "ticks {} {}",
+            self.engine.channels(),
+            sample_bits(output[0])
+        )
+    }
+
+    fn play_block(&mut self, size: u8, length: usize, scratch: Option<usize>) -> String {
+        let mut output = vec![LENT; length];
+        let mut lent = vec![LENT; scratch.unwrap_or(0)];
+        let given = scratch.map(|_| &mut lent[..]);
+        let answer = self
+            .engine
+            .block(size.into(), &mut output, given, &self.pool);
+        if answer.refusal() != 0 {
+            untouched(&output);
+            untouched(&lent);
+            return says(answer);
+        }
+        same_channels(&output, BLOCK);
+        let written = usize::from(size).next_multiple_of(8);
+        untouched(&output[written..BLOCK]);
+        let run = if scratch.is_some() {
+            &lent[..size.into()]
+        } else {
+            &[]
+        };
+        format!(
+            "blocks {} ({}) ({})",
+            self.engine.channels(),
+            bits_text(&output[..written]),
+            bits_text(run)
+        )
+    }
+}
+
+fn untouched(samples: &[f32]) {
+    assert!(
+        samples
+            .iter()
+            .all(|sample| sample.to_bits() == LENT.to_bits())
+    );
+}
+
+/// One value feeds all channels: the first stands for each.
+fn same_channels(output: &[f32], stride: usize) {
+    let bits = |samples: &[f32]| samples.iter().copied().map(sample_bits).collect::<Vec<_>>();
+    let first = bits(&output[..stride]);
+    assert!(output.chunks(stride).all(|channel| bits(channel) == first));
+}
+
+// ---- writing antt
+
+fn list(items: impl IntoIterator<Item = String>) -> String {
+    let mut text = String::new();
+    for item in items {
+        write!(text, "{item} ∷ ").expect("a string grows");
+    }
+    text + "[]"
+}
+
+fn finite(negative: bool, mut digits: u64, mut power: i64) -> String {
+    if digits == 0 {
+        return format!("(fin {negative} 0 (pos 0))");
+    }
+    let zeros = digits.trailing_zeros();
+    digits >>= zeros;
+    power += i64::from(zeros);
+    if power < 0 {
+        format!("(fin {negative} {digits} (negsuc {}))", -power - 1)
+    } else {
+        format!("(fin {negative} {digits} (pos {power}))")
+    }
+}
+
+fn double(x: f64) -> String {
+    if x.is_nan() {
+        return "nan".into();
+    }
+    let negative = x.is_sign_negative();
+    if x.is_infinite() {
+        return format!("(inf {negative})");
+    }
+    let bits = x.to_bits();
+    let (field, low) = ((bits >> 52) & 0x7FF, bits & ((1 << 52) - 1));
+    match field {
+        0 => finite(negative, low, -1074),
+        _ => finite(negative, low | 1 << 52, field as i64 - 1075),
+    }
+}
+
+/// Each f32 is an f64.
+fn single(x: f32) -> String {
+    double(x.into())
+}
+
+fn source_text(source: Source) -> String {
+    match source {
+        Source::Held { level } => format!("(Held {})", single(level)),
+        Source::Ramp { value, step } => format!("(Ramp {} {})", single(value), single(step)),
+        Source::Clip { offset, length } => format!("(Clip {offset} {length})"),
+    }
+}
+
+fn call_text(call: &Call) -> String {
+    match call {
+        Call::Push(kind, push, _) => {
+            let kind = match kind {
+                PushKind::Absolute => "absolute",
+                PushKind::Relative => "relative",
+                PushKind::Duration => "byDuration",
+            };
+            let times = [push.start, push.end, push.fade_in, push.fade_out]
+                .map(double)
+                .join(" ");
+            format!(
+                "push {kind} {times} {:?} {}",
+                push.curve,
+                source_text(push.source)
+            )
+        }
+        Call::Edit(timing, edit) => {
+            let kind = match timing {
+                Timing::Absolute => "absoluteEnd",
+                Timing::Relative => "relativeEnd",
+            };
+            format!(
+                "edit {kind} {} {} {}",
+                edit.number,
+                double(edit.end),
+                double(edit.fade_out)
+            )
+        }
+        Call::TickLent(length) => format!("tick pool (quarters {length})"),
+        Call::BlockLent(size, output, scratch) => {
+            let scratch = match scratch {
+                Some(length) => format!("(some (quarters {length}))"),
+                None => "none".into(),
+            };
+            format!("block {size} pool (quarters {output}) {scratch}")
+        }
+        Call::Reset => "reset".into(),
+        Call::Rate(rate) => format!("rate {}", double(*rate)),
+        _ => unreachable!("`call` draws no other"),
+    }
+}
+
+fn answer_text(answer: Answer) -> String {
+    match answer {
+        Answer::Refused(number) => format!("refused {number}"),
+        Answer::Done => "done".into(),
+        Answer::Number(number) => format!("number {number}"),
+        Answer::Applied => "applied".into(),
+        Answer::Past => "past".into(),
+        Answer::Stored => "stored".into(),
+        Answer::Queued => unreachable!("an engine queues nothing"),
+    }
+}
+
+fn bits_text(samples: &[f32]) -> String {
+    list(
+        samples
+            .iter()
+            .map(|&sample| sample_bits(sample).to_string()),
+    )
+}
+
+fn says(answer: Answer) -> String {
+    match answer {
+        Answer::Number(_) | Answer::Refused(_) => format!("says ({})", answer_text(answer)),
+        _ => format!("says {}", answer_text(answer)),
+    }
+}
+
+fn event_numbers(event: &EventState) -> Vec<String> {
+    let (kind, first, second) = match event.source {
+        Source::Held { level } => (0, level.to_bits(), 0),
+        Source::Ramp { value, step } => (1, value.to_bits(), step.to_bits()),
+        Source::Clip { offset, length } => (2, offset, length),
+    };
+    let curve = match event.curve {
+        Curve::Power => 0,
+        Curve::Smooth => 1,
+    };
+    let times = [
+        event.number,
+        event.start,
+        event.end,
+        event.fade_in,
+        event.fade_out,
+    ];
+    let rest = [curve, kind, first, second, event.value, event.place];
+    times
+        .iter()
+        .map(u64::to_string)
+        .chain(rest.iter().map(u32::to_string))
+        .collect()
+}
+
+fn state_text(state: &State) -> String {
+    // 0 after 2^64 - 1 has been given
+    let next = if state.next == 0 {
+        1 << 64
+    } else {
+        u128::from(state.next)
+    };
+    let mut numbers: Vec<String> = [
+        state.waiting.len(),
+        state.sounding.len(),
+        state.finished.len(),
+    ]
+    .iter()
+    .map(usize::to_string)
+    .collect();
+    numbers.extend(
+        [
+            state.let_go,
+            state.clock,
+            state.threshold,
+            state.rate,
+            state.duration,
+        ]
+        .map(|x| x.to_string()),
+    );
+    numbers.push(next.to_string());
+    for event in state
+        .waiting
+        .iter()
+        .chain(&state.sounding)
+        .chain(&state.finished)
+    {
+        numbers.extend(event_numbers(event));
+    }
+    list(numbers)
+}
+
+fn edits_text(state: &State) -> String {
+    list(state.edits.iter().map(|edit| {
+        format!(
+            "record {{ id = {}; end = {}; fade = {} }}",
+            edit.number, edit.end, edit.fade_out
+        )
+    }))
+}
+
+/// One list as a trial.
+fn trial(random: &mut Random) -> String {
+    let channels = random.pick(&[1, 1, 1, 2, 2, 3]);
+    let channels = if random.chance(2) {
+        random.pick(&[0, 9])
+    } else {
+        channels
+    };
+    let mode = random.pick(&[Mode::All, Mode::None]);
+    let first = random.pick(&[1, 1, 1, 1, 1, 1, 2, 1000, u64::MAX - 2, u64::MAX]);
+    let first = if random.chance(2) { 0 } else { first };
+    let (engine, created) = Engine::create((), channels, mode, first);
+    let mut trial = Trial {
+        random,
+        first: engine.state().next,
+        engine,
+        pool: POOL.into(),
+        calls: Vec::new(),
+    };
+    if trial.random.chance(85) {
+        let rate = trial.random.pick(RATES);
+        trial.play(&Call::Rate(rate));
+    }
+    for place in 0..trial.random.between(0, 11) {
+        let call = if place < 2 {
+            trial.push()
+        } else {
+            trial.call()
+        };
+        trial.play(&call);
+    }
+    let state = trial.engine.state();
+    let calls: Vec<String> = trial
+        .calls
+        .iter()
+        .map(|call| format!("{call}\n          ∷ "))
+        .collect();
+    format!(
+        "record {{
+      channels = {channels};
+      mode = {mode:?};
+      first = {first};
+      created = {};
+      calls = {}[];
+      state = {};
+      edits = {};
+    }}",
+        answer_text(created),
+        calls.concat(),
+        state_text(&state),
+        edits_text(&state)
+    )
+}
+
+const HEAD: &str = "\
+-- GENERATED by the oracle's `ledgerlists`: random lists of calls, each with what the Rust sequencer answers, writes and holds after it. The ledger has the same. Assumes nothing.
+use mathlib.Core.Path.{_≡_, refl}
+use mathlib.Core.Bool.{true, false}
+use mathlib.Core.List.{List, [], _∷_}
+use mathlib.Core.Option.{none, some}
+use lib.IntN.{pos, negsuc}
+use lib.Ieee.{Float, nan, inf, fin}
+use Rattle.event.specs.declared.Fade.the-variants.{Power, Smooth}
+use Rattle.event.specs.declared.ReplayMode.the-variants.{All, None}
+use Rattle.event.specs.declared.Source.the-variants.{Held, Ramp, Clip}
+use Rattle.ledger.specs.Calls.{push, edit, tick, block, rate, reset, absolute, relative, byDuration, absoluteEnd, relativeEnd, number, applied, past, stored, done, refused}
+use Rattle.ledger_trials.specs.Trials.{Trial, quarters, says, ticks, blocks, allAgree}
+";
+
+fn main() {
+    let mut random = Random(SEED);
+    print!("{HEAD}");
+    println!(
+        "\nabbrev pool : List Float\npool = {}",
+        list(POOL.map(single))
+    );
+    for group in 1..=LISTS / GROUP {
+        let trials: Vec<String> = (0..GROUP).map(|_| trial(&mut random)).collect();
+        println!("\nunfoldable pub lists{group} : List Trial");
+        println!("lists{group} =\n    {}\n    ∷ []", trials.join("\n    ∷ "));
+        println!("\npub agree{group} : allAgree lists{group} ≡ true");
+        println!("unfolding allAgree lists{group}");
+        println!("agree{group} = refl");
+    }
+}

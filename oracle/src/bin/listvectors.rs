@@ -1,0 +1,175 @@
+// The file crates/list_vectors/stdout: the same random pushes, pops, places and edits as crates/list_vectors/src/main.rt,
+// through the standard library's BinaryHeap and HashMap. To make it, in the repository's root, once the oracle is built:
+//     oracle/target/release/listvectors > crates/list_vectors/stdout
+// A BinaryHeap does not say which of two equal elements it gives first, so `Ord` ends with the number (document 01, difference 1).
+use std::cmp::Ordering;
+use std::collections::{BinaryHeap, HashMap};
+
+fn random(seed: u32) -> u32 {
+    let x = seed ^ (seed << 13);
+    let x = x ^ (x >> 17);
+    x ^ (x << 5)
+}
+
+fn mixed(digest: u64, value: u64) -> u64 {
+    digest.rotate_left(7).wrapping_add(value)
+}
+
+fn start_of(code: u64) -> f64 {
+    if code == 0 {
+        -0.0
+    } else {
+        (code - 1) as f64 * 0.25
+    }
+}
+
+#[derive(Clone)]
+struct Event {
+    start: f64,
+    end: f64,
+    id: u64,
+    place: u32,
+}
+
+// A BinaryHeap gives its greatest, as fundsp's sequencer has it: so the earlier event is the greater.
+impl Ord for Event {
+    fn cmp(&self, other: &Self) -> Ordering {
+        other.start.total_cmp(&self.start).then(other.id.cmp(&self.id))
+    }
+}
+impl PartialOrd for Event {
+    fn partial_cmp(&self, other: &Self) -> Option<Ordering> {
+        Some(self.cmp(other))
+    }
+}
+impl PartialEq for Event {
+    fn eq(&self, other: &Self) -> bool {
+        self.cmp(other) == Ordering::Equal
+    }
+}
+impl Eq for Event {}
+
+// The nearest whole number, halves away from zero.
+fn index(x: f64) -> u64 {
+    x.round() as u64
+}
+
+fn heap_digest() -> u64 {
+    let mut heap = BinaryHeap::new();
+    let mut seed: u32 = 2463534242;
+    let mut digest = 0;
+    let (mut fulls, mut empties) = (0, 0);
+    for k in 0..40000u64 {
+        seed = random(seed);
+        let r = seed as u64;
+        let often = (k / 1024) % 2 == 0;
+        if r % 8 < if often { 6 } else { 2 } {
+            let start = start_of(r / 8 % 64);
+            if heap.len() < 256 {
+                heap.push(Event { start, end: start + 1.0, id: k * 2654435761 % 4294967296, place: 3 });
+            } else {
+                fulls += 1;
+            }
+        } else if let Some(event) = heap.pop() {
+            for value in [event.id, index(event.start * 4.0), index(event.end * 4.0), event.place as u64] {
+                digest = mixed(digest, value);
+            }
+        } else {
+            empties += 1;
+        }
+        digest = mixed(digest, heap.len() as u64);
+    }
+    eprintln!("heap: {fulls} pushes on a full heap, {empties} pops of an empty one");
+    digest
+}
+
+fn index_digest() -> u64 {
+    let mut active: Vec<u64> = Vec::new();
+    let mut active_map: HashMap<u64, usize> = HashMap::new();
+    let mut seed: u32 = 88172645;
+    let mut digest = 0;
+    let (mut fulls, mut moved) = (0, 0);
+    for k in 0..20000u64 {
+        seed = random(seed);
+        let r = seed as u64;
+        let id = r % 320;
+        if let Some(&i) = active_map.get(&id) {
+            digest = mixed(digest, i as u64);
+            if r / 512 % 4 < (k / 1024) % 4 {
+                active.swap_remove(i);
+                active_map.remove(&id);
+                if i < active.len() {
+                    active_map.insert(active[i], i);
+                    moved += 1;
+                }
+            }
+        } else {
+            digest = mixed(digest, 999);
+            if active.len() < 256 {
+                active_map.insert(id, active.len());
+                active.push(id);
+            } else {
+                fulls += 1;
+            }
+        }
+        digest = mixed(digest, active.len() as u64);
+    }
+    eprintln!("index: {fulls} appends on a full list, {moved} swaps");
+    digest
+}
+
+fn all_edits(mut digest: u64, order: &[u64], edit_map: &HashMap<u64, f64>) -> u64 {
+    for id in order {
+        digest = mixed(digest, *id);
+        digest = mixed(digest, index(edit_map[id]));
+    }
+    digest
+}
+
+fn edit_digest() -> u64 {
+    let mut edit_map: HashMap<u64, f64> = HashMap::new();
+    // a HashMap has no order: the numbers in order of first storing
+    let mut order: Vec<u64> = Vec::new();
+    let mut seed: u32 = 1234567891;
+    let mut digest = 0;
+    let (mut fulls, mut replaced, mut removed) = (0, 0, 0);
+    for k in 0..20000u64 {
+        seed = random(seed);
+        let r = seed as u64;
+        let id = r % 400;
+        let end = (r / 512) as f64;
+        let what = r / 512 % 8;
+        if what < 4 {
+            if edit_map.contains_key(&id) {
+                edit_map.insert(id, end);
+                replaced += 1;
+            } else if edit_map.len() < 256 {
+                edit_map.insert(id, end);
+                order.push(id);
+            } else {
+                fulls += 1;
+            }
+        } else if what < 4 + (k / 1024) % 3 {
+            if edit_map.remove(&id).is_some() {
+                order.retain(|x| *x != id);
+                removed += 1;
+            }
+        } else if let Some(end) = edit_map.get(&id) {
+            digest = mixed(mixed(digest, 1), index(*end));
+        } else {
+            digest = mixed(digest, 0);
+        }
+        digest = mixed(digest, edit_map.len() as u64);
+        if k % 512 == 0 {
+            digest = all_edits(digest, &order, &edit_map);
+        }
+    }
+    eprintln!("edits: {fulls} on a full map, {replaced} replaced, {removed} removed");
+    digest
+}
+
+fn main() {
+    println!("heap  {:016X}", heap_digest());
+    println!("index {:016X}", index_digest());
+    println!("edits {:016X}", edit_digest());
+}

@@ -1,0 +1,36 @@
+//! Prints the listing of the desk script on standard input, with the desk's two queues.
+//! `--full` adds the whole state.
+
+use oracle::desk::Desk;
+use oracle::listing::{Detail, play};
+use oracle::session::{TRAIL_POOL, pool};
+use oracle::tape::Format;
+use std::io::{self, BufWriter, Read, Write};
+use std::process::ExitCode;
+
+fn main() -> ExitCode {
+    let mut detail = Detail::Queues;
+    for argument in std::env::args().skip(1) {
+        if argument != "--full" {
+            eprintln!("usage: oracle-desk [--full] < SCRIPT");
+            return ExitCode::from(2);
+        }
+        detail = Detail::Full;
+    }
+    match run(detail) {
+        Ok(()) => ExitCode::SUCCESS,
+        Err(error) => {
+            eprintln!("oracle-desk: {error}");
+            ExitCode::FAILURE
+        }
+    }
+}
+
+fn run(detail: Detail) -> io::Result<()> {
+    let mut tape = Vec::new();
+    // A failed read counts as the end of the tape.
+    let _ = io::stdin().lock().read_to_end(&mut tape);
+    let mut out = BufWriter::new(io::stdout().lock());
+    play::<Desk>(Format::Desk, detail, (), &tape, &pool(TRAIL_POOL), &mut out)?;
+    out.flush()
+}

@@ -1,0 +1,39 @@
+//! Prints what `trail` must print for the tape on standard input.
+//! `--full` adds the whole state, `--script` takes kinds 11 to 14 too.
+
+use oracle::engine::Engine;
+use oracle::listing::{Detail, play};
+use oracle::session::{TRAIL_POOL, pool};
+use oracle::tape::Format;
+use std::io::{self, BufWriter, Read, Write};
+use std::process::ExitCode;
+
+fn main() -> ExitCode {
+    let (mut format, mut detail) = (Format::Tape, Detail::Listing);
+    for argument in std::env::args().skip(1) {
+        match argument.as_str() {
+            "--full" => detail = Detail::Full,
+            "--script" => format = Format::Script,
+            _ => {
+                eprintln!("usage: oracle-trail [--full] [--script] < TAPE");
+                return ExitCode::from(2);
+            }
+        }
+    }
+    match run(format, detail) {
+        Ok(()) => ExitCode::SUCCESS,
+        Err(error) => {
+            eprintln!("oracle-trail: {error}");
+            ExitCode::FAILURE
+        }
+    }
+}
+
+fn run(format: Format, detail: Detail) -> io::Result<()> {
+    let mut tape = Vec::new();
+    // A failed read counts as the end of the tape.
+    let _ = io::stdin().lock().read_to_end(&mut tape);
+    let mut out = BufWriter::new(io::stdout().lock());
+    play::<Engine>(format, detail, (), &tape, &pool(TRAIL_POOL), &mut out)?;
+    out.flush()
+}

@@ -1,0 +1,101 @@
+//! The calls of a tape or script, as plain data.
+
+#[derive(Clone, Copy, PartialEq, Eq, Debug)]
+pub enum Mode {
+    All,
+    None,
+}
+
+#[derive(Clone, Copy, PartialEq, Eq, Debug)]
+pub enum Curve {
+    Power,
+    Smooth,
+}
+
+#[derive(Clone, Copy, PartialEq, Debug)]
+pub enum Source {
+    Held { level: f32 },
+    Ramp { value: f32, step: f32 },
+    Clip { offset: u32, length: u32 },
+}
+
+#[derive(Clone, Copy, PartialEq, Eq, Debug)]
+pub enum Timing {
+    Absolute,
+    Relative,
+}
+
+/// How a push gives its end.
+#[derive(Clone, Copy, PartialEq, Eq, Debug)]
+pub enum PushKind {
+    Absolute,
+    Relative,
+    Duration,
+}
+
+#[derive(Clone, Copy, PartialEq, Debug)]
+pub struct Push {
+    pub start: f64,
+    /// The end, or the duration in a push by duration.
+    pub end: f64,
+    pub fade_in: f64,
+    pub fade_out: f64,
+    pub curve: Curve,
+    pub source: Source,
+}
+
+#[derive(Clone, Copy, PartialEq, Debug)]
+pub struct Edit {
+    pub number: u64,
+    pub end: f64,
+    pub fade_out: f64,
+}
+
+#[derive(Clone, Copy, PartialEq, Debug)]
+pub enum Call {
+    Create {
+        channels: u8,
+        mode: Mode,
+        first: u64,
+    },
+    /// The last field is a held source's unused word; 0 with other sources.
+    Push(PushKind, Push, u32),
+    Edit(Timing, Edit),
+    Tick,
+    Block(u8),
+    Reset,
+    Rate(f64),
+    /// Desk scripts only: the reset that the front queues.
+    FrontReset,
+    /// Scripts only: a tick with the length of the lent output.
+    TickLent(u16),
+    /// Scripts only: a block with the lengths of the lent output and scratch.
+    BlockLent(u8, u16, Option<u16>),
+    /// Scripts only: the length of the pool that is lent from here on.
+    Pool(u16),
+    /// Engine scripts only: so many blocks of 64 samples, up to the first refused one.
+    Spin(u32),
+}
+
+impl Call {
+    /// The byte of kind.
+    pub fn kind(&self) -> u8 {
+        match self {
+            Call::Create { .. } => 0x00,
+            Call::Push(PushKind::Absolute, ..) => 0x01,
+            Call::Push(PushKind::Relative, ..) => 0x02,
+            Call::Push(PushKind::Duration, ..) => 0x03,
+            Call::Edit(Timing::Absolute, _) => 0x04,
+            Call::Edit(Timing::Relative, _) => 0x05,
+            Call::Tick => 0x06,
+            Call::Block(_) => 0x07,
+            Call::Reset => 0x08,
+            Call::Rate(_) => 0x09,
+            Call::FrontReset => 0x10,
+            Call::TickLent(_) => 0x11,
+            Call::BlockLent(..) => 0x12,
+            Call::Pool(_) => 0x13,
+            Call::Spin(_) => 0x14,
+        }
+    }
+}

@@ -1,0 +1,123 @@
+//! Comparing something with the oracle on random tapes.
+
+use crate::generate::{PROFILES, Profile, generate, named};
+use crate::shrink::shrink;
+use crate::tape;
+use crate::text::to_text;
+
+/// Which tapes are tried.
+pub struct Options {
+    pub profiles: Vec<&'static Profile>,
+    /// Tapes of each profile.
+    pub tapes: u64,
+    /// The first seed.
+    pub seed: u64,
+}
+
+impl Options {
+    /// Read `--tapes N`, `--seed S` and any number of `--profile P`; the arguments that follow.
+    /// Without a profile all those that `usable` takes are tried.
+    pub fn read(
+        arguments: &[String],
+        usable: impl Fn(&Profile) -> bool,
+    ) -> Result<(Self, &[String]), String> {
+        let mut options = Options {
+            profiles: Vec::new(),
+            tapes: 20,
+            seed: 0,
+        };
+        let mut rest = arguments;
+        while let [option, value, more @ ..] = rest {
+            let number = || value.parse().map_err(|_| format!("bad number {value}"));
+            match option.as_str() {
+                "--tapes" => options.tapes = number()?,
+                "--seed" => options.seed = number()?,
+                "--profile" => {
+                    let profile = named(value).filter(|profile| usable(profile));
+                    options
+                        .profiles
+                        .push(profile.ok_or(format!("no such profile: {value}"))?);
+                }
+                _ => break,
+            }
+            rest = more;
+        }
+        if options.profiles.is_empty() {
+            options.profiles = PROFILES.iter().filter(|profile| usable(profile)).collect();
+        }
+        Ok((options, rest))
+    }
+}
+
+/// Tapes and records that were compared.
+#[derive(Clone, Copy, Debug, Default, PartialEq, Eq)]
+pub struct Compared {
+    pub tapes: u64,
+    pub records: u64,
+}
+
+/// Compare on every tape. `differs` says in what a tape shows a difference.
+/// An error is the report of the first difference with its smallest tape as text.
+pub fn compare(
+    options: &Options,
+    mut differs: impl FnMut(&[u8]) -> Option<String>,
+) -> Result<Compared, String> {
+    let mut compared = Compared::default();
+    for profile in &options.profiles {
+        for seed in options.seed..options.seed + options.tapes {
+            let tape = generate(profile, seed);
+            if let Some(what) = differs(&tape) {
+                return Err(report(profile, seed, &tape, &what, &mut differs));
+            }
+            compared.tapes += 1;
+            compared.records += count(profile, &tape);
+        }
+    }
+    Ok(compared)
+}
+
+/// The records of a tape, the one that stops it included.
+fn count(profile: &Profile, tape: &[u8]) -> u64 {
+    let (calls, stop) = tape::records(profile.format, tape);
+    calls.len() as u64 + u64::from(stop.is_some())
+}
+
+fn report(
+    profile: &Profile,
+    seed: u64,
+    tape: &[u8],
+    what: &str,
+    differs: &mut impl FnMut(&[u8]) -> Option<String>,
+) -> String {
+    let smallest = shrink(profile.format, tape, |tape| differs(tape).is_some());
+    let smallest_what = differs(&smallest).unwrap_or_else(|| "it differs no more".into());
+    format!(
+        "first difference: profile {}, seed {seed}\n{what}\nsmallest tape:\n{}{smallest_what}\n",
+        profile.name,
+        to_text(profile.format, &smallest),
+    )
+}
+
+/// Where two texts part, or none.
+pub fn first_line(expected: &[u8], got: &[u8]) -> Option<String> {
+    if expected == got {
+        return None;
+    }
+    let mut expected = expected.split(|byte| *byte == b'\n');
+    let mut got = got.split(|byte| *byte == b'\n');
+    let mut number = 1;
+    loop {
+        let (line, other) = (expected.next(), got.next());
+        if line != other {
+            let show = |line: Option<&[u8]>| match line {
+                Some(line) => String::from_utf8_lossy(line).into_owned(),
+                None => "(no line)".into(),
+            };
+            let (line, other) = (show(line), show(other));
+            return Some(format!(
+                "line {number}\n  expected: {line}\n  got:      {other}"
+            ));
+        }
+        number += 1;
+    }
+}

@@ -1,0 +1,49 @@
+//! Deliberate faults of the ledger, to show that the comparison catches them.
+
+#[derive(Clone, Copy, PartialEq, Eq, Debug)]
+pub enum Mutation {
+    /// A finished event leaves its place by closing the gap.
+    SwapOrderIgnored,
+    /// After a finish the moved event is skipped.
+    MovedEventSkipped,
+    /// Fade places are counted by the rate, not by the sample duration.
+    FadeByRate,
+    /// A push straight to the sounding list takes a stored edit.
+    PushTakesEdit,
+    /// A reset in mode All empties the edits.
+    ResetEmptiesEdits,
+    /// A block of n samples is n ticks.
+    BlockAsTicks,
+    /// The desk handles a reset message without draining first.
+    QueueFlat,
+}
+
+impl Mutation {
+    pub const ALL: [Mutation; 7] = [
+        Mutation::SwapOrderIgnored,
+        Mutation::MovedEventSkipped,
+        Mutation::FadeByRate,
+        Mutation::PushTakesEdit,
+        Mutation::ResetEmptiesEdits,
+        Mutation::BlockAsTicks,
+        Mutation::QueueFlat,
+    ];
+
+    pub fn name(self) -> &'static str {
+        match self {
+            Mutation::SwapOrderIgnored => "swap-order-ignored",
+            Mutation::MovedEventSkipped => "moved-event-skipped",
+            Mutation::FadeByRate => "fade-by-rate",
+            Mutation::PushTakesEdit => "push-takes-edit",
+            Mutation::ResetEmptiesEdits => "reset-empties-edits",
+            Mutation::BlockAsTicks => "block-as-ticks",
+            Mutation::QueueFlat => "queue-flat",
+        }
+    }
+
+    pub fn named(name: &str) -> Option<Self> {
+        Self::ALL
+            .into_iter()
+            .find(|mutation| mutation.name() == name)
+    }
+}

@@ -1,0 +1,23 @@
+//! The fundsp 0.23.0 sequencer as the judge of its port. README.md says what is where.
+
+pub mod agree;
+pub mod call;
+pub mod compare;
+pub mod desk;
+pub mod engine;
+pub mod exhaustive;
+pub mod generate;
+pub mod ledger;
+pub mod listing;
+#[rustfmt::skip] // laid out as the source is
+pub mod original;
+pub mod player;
+mod refusal;
+pub mod render;
+pub mod session;
+pub mod sheet;
+pub mod shrink;
+pub mod state;
+pub mod tape;
+pub mod text;
+mod units;

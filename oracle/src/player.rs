@@ -1,0 +1,61 @@
+//! What the original and the ledger have in common: the calls, with what is lent to them.
+
+use crate::call::{Edit, Mode, Push, PushKind, Timing};
+use crate::state::{Counts, State};
+use std::rc::Rc;
+
+/// Most events held, and most edits stored.
+pub const MAX_HELD: usize = 256;
+/// Samples per channel of a block's output.
+pub const BLOCK: usize = 64;
+
+#[derive(Clone, Copy, PartialEq, Eq, Debug)]
+pub enum Answer {
+    Refused(u8),
+    Done,
+    Number(u64),
+    Applied,
+    Past,
+    Stored,
+    Queued,
+}
+
+impl Answer {
+    /// The refusal's number, or 0.
+    pub fn refusal(self) -> u8 {
+        match self {
+            Answer::Refused(number) => number,
+            _ => 0,
+        }
+    }
+}
+
+/// The pool of samples that is lent to a call.
+pub type Pool = Rc<[f32]>;
+
+/// An engine or a desk. On a desk pushes, edits and `front_reset` are the front's calls.
+pub trait Player: Sized {
+    /// What chooses between variants of this player.
+    type Variant: Copy + Default;
+
+    /// A player, or refusal 1 with the player that a refused creation hands back.
+    fn create(variant: Self::Variant, channels: u8, mode: Mode, first: u64) -> (Self, Answer);
+    fn push(&mut self, kind: PushKind, push: &Push) -> Answer;
+    fn edit(&mut self, timing: Timing, edit: &Edit) -> Answer;
+    fn tick(&mut self, output: &mut [f32], pool: &Pool) -> Answer;
+    fn block(
+        &mut self,
+        size: usize,
+        output: &mut [f32],
+        scratch: Option<&mut [f32]>,
+        pool: &Pool,
+    ) -> Answer;
+    fn reset(&mut self) -> Answer;
+    fn rate(&mut self, rate: f64) -> Answer;
+    fn front_reset(&mut self) -> Answer;
+    fn channels(&self) -> usize;
+    fn counts(&self) -> Counts;
+    fn state(&self) -> State;
+    /// Per channel, how many first places of a lent scratch the last call decides.
+    fn scratch_given(&self) -> Option<usize>;
+}
