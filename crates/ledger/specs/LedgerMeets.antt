@@ -53,7 +53,7 @@ same-scratch : (k : ℕ) (s : Option (List Float)) → SameScratch k s s
 same-scratch k none = tt
 same-scratch k (some l) = (refl, λ c j h. refl)
 
-same-reply : (r : Reply) → SameReply r r
+pub same-reply : (r : Reply) → SameReply r r
 same-reply r = record { answer = refl; out = refl; scratch = same-scratch (r .given) (r .scratch) }
 
 pub ledger-meets : (b : Bool) → Claim (engineOf b (λ l c. pairOf (step l c)))

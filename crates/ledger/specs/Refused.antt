@@ -41,7 +41,7 @@ pub record Unchanged (l : Ledger) (c : Call) (o : Outcome) : Type 0 where
   pub scratch : o .reply .scratch ≡ lentScratch c
 
 -- a refusal is the only answer that has a number of document 01's list
-abbrev refusedWith : Answer → Option ℕ
+abbrev pub refusedWith : Answer → Option ℕ
 refusedWith (number k) = none
 refusedWith applied = none
 refusedWith past = none
@@ -55,7 +55,7 @@ change-accepts l k d true b = refl
 change-accepts l k d false true = refl
 change-accepts l k d false false = refl
 
-accepts : (l : Ledger) (c : Call) → refusedWith (accept l c .reply .answer) ≡ none
+pub accepts : (l : Ledger) (c : Call) → refusedWith (accept l c .reply .answer) ≡ none
 unfolding accept
 accepts l (push kind start end fade-in fade-out curve source) = refl
 accepts l (edit kind k end fade-out) =

@@ -1,0 +1,16 @@
+pub mod Related
+pub mod Starts
+pub mod Sweeps
+pub mod Advance
+pub mod Entering
+pub mod AllToReady
+pub mod Resetting
+pub mod Changing
+pub mod Creating
+pub mod View
+pub mod RefusalsAgree
+pub mod Passes
+pub mod SamplesAgree
+pub mod EngineCalls
+pub mod Steps
+pub mod Theorem

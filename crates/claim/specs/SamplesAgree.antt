@@ -1,0 +1,121 @@
+-- The engine's samples are the ledger's: the pass over the sounding array gives the ledger's sum of a tick or a block, leaves the events as the ledger's stand after it, and the output written from it is the ledger's. Assumes nothing.
+use mathlib.Core.Bool.{Bool, true, false, cond}
+use mathlib.Core.Path.{_≡_, refl, sym, ap, ap₂, _∙_, subst}
+use mathlib.Core.List.{List, [], _∷_, map, foldl}
+use Prim.Native.Nat.{ℕ, zero, suc, _-_, _≤_, min}
+use native.Mathlib.Omega.{arith}
+use lib.Dec.{ltb}
+use lib.Ieee.{Float}
+use lib.ListN.{length, take, replicate, length-replicate}
+use lib.Seq.{take-all}
+use Rattle.event.specs.declared.Event.{Event}
+use Rattle.event.specs.Events.{blank, withUnit}
+use Rattle.event.specs.Sources.{advancedBy}
+use Rattle.floats.specs.Arithmetic.{zeroᶠ}
+use Rattle.lists.specs.Holds.{holds-to}
+use Rattle.lists.specs.Sounding.{idOf}
+use Rattle.ledger.specs.TickSamples.{afterTick, tickSum}
+use Rattle.ledger.specs.BlockSamples.{Span, firstPlace, endPlace, fadedRun, addAt, channelAfter, scratchAfter, afterBlock, blockSum}
+use Rattle.ledger.specs.Ledger.{Ledger}
+use Rattle.ledger.specs.Steps as Ledger
+use Rattle.ledger.specs.Steps.{cleared}
+use Rattle.mixing.specs.Blocks.{clearedPlaces, cleared-is, cleared-within}
+use Rattle.sequencer.specs.declared.Sequencer.{Sequencer}
+use Rattle.sequencer.specs.Parts.{withSounding}
+use Rattle.sequencer.specs.Rendering.{passes, addTick, tickPass, addBlock, blockPass}
+use Rattle.claim.specs.Related.{Related}
+use Rattle.claim.specs.Passes.{holds-pass}
+
+-- ---- the ledger's sums, as a pass makes them
+
+module _ (pool : List Float) (t : Float) where
+  tick-out : (l : List Event) (out : Float) → foldl (addTick pool t) out l ≡ tickSum pool t l out .out
+  unfolding tickSum
+  tick-out [] out = refl
+  tick-out (e ∷ l) out = tick-out l (addTick pool t out e)
+
+  tick-events : (l : List Event) (out : Float) → map afterTick l ≡ tickSum pool t l out .events
+  unfolding tickSum
+  tick-events [] out = refl
+  tick-events (e ∷ l) out = ap (λ (r : List Event). afterTick e ∷ r) (tick-events l (addTick pool t out e))
+
+module _ (pool : List Float) (b : Span) where
+  block-channel : (l : List Event) (channel scratch : List Float) → foldl (addBlock pool b) channel l ≡ blockSum pool b l channel scratch .channel
+  unfolding blockSum
+  block-channel [] channel scratch = refl
+  block-channel (e ∷ l) channel scratch = block-channel l (channelAfter pool b e channel) (scratchAfter pool b e scratch)
+
+  block-events : (l : List Event) (channel scratch : List Float) → map (afterBlock b) l ≡ blockSum pool b l channel scratch .events
+  unfolding blockSum
+  block-events [] channel scratch = refl
+  block-events (e ∷ l) channel scratch = ap (λ (r : List Event). afterBlock b e ∷ r) (block-events l (channelAfter pool b e channel) (scratchAfter pool b e scratch))
+
+  -- a channel keeps its length
+  length-added : (s : ℕ) (run l : List Float) → length (addAt s run l) ≡ length l
+  unfolding addAt
+  length-added zero run [] = refl
+  length-added (suc s) run [] = refl
+  length-added (suc s) run (x ∷ l) = ap suc (length-added s run l)
+  length-added zero [] (x ∷ l) = refl
+  length-added zero (y ∷ run) (x ∷ l) = ap suc (length-added zero run l)
+
+  length-after : (e : Event) (channel : List Float) → length (channelAfter pool b e channel) ≡ length channel
+  unfolding channelAfter
+  length-after e channel = go (ltb (firstPlace b e) (endPlace b e))
+    where
+      run : List Float
+      run = fadedRun pool b (firstPlace b e) (endPlace b e) e
+
+      go : (t : Bool) → length (cond t (addAt (firstPlace b e) run channel) channel) ≡ length channel
+      go true = length-added (firstPlace b e) run channel
+      go false = refl
+
+  length-channel : (l : List Event) (channel : List Float) → length (foldl (addBlock pool b) channel l) ≡ length channel
+  length-channel [] channel = refl
+  length-channel (e ∷ l) channel = length-channel l (channelAfter pool b e channel) ∙ length-after e channel
+
+-- ---- a pass over the sounding array keeps the relation
+
+same-ids : (f : Event → Event) → ((e : Event) → idOf (f e) ≡ idOf e) → (l : List Event) → map idOf l ≡ map idOf (map f l)
+same-ids f h [] = refl
+same-ids f h (e ∷ l) = ap₂ (λ x y. x ∷ y) (sym (h e)) (same-ids f h l)
+
+module _ {S : Type 0} (next : Event → Event) (plus : S → Event → S) (z : S) (keeps : (e : Event) → idOf (next e) ≡ idOf e) where
+  related-pass : (s : Sequencer) (l : Ledger) → Related s l → let p = passes next plus blank (min (s .«active_len») 256) (s .active) 0 z in
+      Related (withSounding s (p .items)) (Ledger.withSounding l (map next (l .sounding))) × (p .sum ≡ foldl plus z (l .sounding))
+  related-pass s l r =
+      let whole : s .«active_len» ≡ min (s .«active_len») 256 = omega (arith, r .lists .1 .fits) in
+      let p = holds-pass next plus blank (s .active) (s .«active_len») (l .sounding) z (r .lists .1) in
+      subst
+      (λ (n : ℕ). let p = passes next plus blank n (s .active) 0 z in Related (withSounding s (p .items)) (Ledger.withSounding l (map next (l .sounding))) × (p .sum ≡ foldl plus z (l .sounding)))
+      whole
+      (record { lists = (r .lists .0, p .0, holds-to (same-ids next keeps (l .sounding)) (r .lists .2), r .lists .3, r .lists .4); plain = r .plain }, p .1)
+
+-- ---- a tick at clock t, and a block
+
+pub related-tick : (pool : List Float) (t : Float) (s : Sequencer) (l : Ledger) → Related s l → let sum = tickSum pool t (l .sounding) zeroᶠ in
+    Related (withSounding s (tickPass pool t s .items)) (Ledger.withSounding l (sum .events)) × (tickPass pool t s .sum ≡ sum .out)
+unfolding tickPass
+related-tick pool t s l r =
+    let k = related-pass afterTick (addTick pool t) zeroᶠ (λ e. refl) s l r in
+    (subst (λ (x : List Event). Related (withSounding s (tickPass pool t s .items)) (Ledger.withSounding l x)) (tick-events pool t (l .sounding) zeroᶠ) (k .0), k .1 ∙ tick-out pool t (l .sounding) zeroᶠ)
+
+after-id : (b : Span) (e : Event) → idOf (afterBlock b e) ≡ idOf e
+unfolding afterBlock
+after-id b e = go (ltb (firstPlace b e) (endPlace b e))
+  where
+    go : (t : Bool) → idOf (cond t (withUnit (advancedBy (e .unit) (endPlace b e - firstPlace b e)) e) e) ≡ idOf e
+    go true = refl
+    go false = refl
+
+pub related-block : (pool : List Float) (b : Span) (n : ℕ) (s : Sequencer) (l : Ledger) → n ≤ 64 → Related s l → let sum = blockSum pool b (l .sounding) (cleared n) [] in
+    Related (withSounding s (blockPass pool b n s .items)) (Ledger.withSounding l (sum .events)) × (take 64 (blockPass pool b n s .sum) ≡ sum .channel)
+unfolding blockPass
+related-block pool b n s l h r =
+    let z : List Float = replicate (clearedPlaces n) zeroᶠ in
+    let k = related-pass (afterBlock b) (addBlock pool b) z (after-id b) s l r in
+    let same : z ≡ cleared n = ap (λ (m : ℕ). replicate m zeroᶠ) (cleared-is n h) in
+    let short : length (foldl (addBlock pool b) z (l .sounding)) ≤ 64 = omega (arith, length-channel pool b (l .sounding) z, length-replicate (clearedPlaces n) zeroᶠ, cleared-within n) in (
+      subst (λ (x : List Event). Related (withSounding s (blockPass pool b n s .items)) (Ledger.withSounding l x)) (block-events pool b (l .sounding) (cleared n) []) (k .0),
+      ap (take 64) (k .1) ∙ take-all 64 (foldl (addBlock pool b) z (l .sounding)) short ∙ ap (λ (x : List Float). foldl (addBlock pool b) x (l .sounding)) same ∙ block-channel pool b (l .sounding) (cleared n) [],
+    )

@@ -1,0 +1,214 @@
+// The refusals of document 01 that are the engine's, in their order: a number, or 0 where none applies. They take no engine, so that the desk and the tape can ask them too.
+ghost use mathlib.Core.Path.{_≡_};
+ghost use Prim.Native.Nat.{min, _+_};
+ghost use lib.Ieee.Scale.{finite as isFinite};
+ghost use Rattle.ledger.specs.Refusals as Limits;
+ghost use Rattle.refusals.specs.Refusals.{pushRefusal, noRoom, editRefusal, tickRefusal, processRefusal, rateRefusal};
+use event::EventId;
+use event::Source;
+use lists::ActiveMap;
+use lists::EditMap;
+use lists::Found;
+use lists::FoundEdit;
+
+// Within 1,000,000,000 in magnitude, and no NaN.
+fn within(x: f64) -> bool
+    ensures { λ r. ⌜ r ≡ Limits.within x ⌝ }
+{
+    if -1000000000.0 <= x {
+        return x <= 1000000000.0;
+    }
+    false
+}
+
+// The same, or +infinity.
+fn within_end(x: f64) -> bool
+    ensures { λ r. ⌜ r ≡ Limits.withinEnd x ⌝ }
+{
+    if within(x) {
+        return true;
+    }
+    let top: f64 = 1.0 / 0.0;
+    x == top
+}
+
+fn finite(x: f32) -> bool
+    ensures { λ r. ⌜ r ≡ isFinite x ⌝ }
+{
+    let top: f32 = 1.0 / 0.0;
+    if x < top {
+        return -top < x;
+    }
+    false
+}
+
+fn finite_source(source: Source) -> bool
+    ensures { λ r. ⌜ r ≡ Limits.finiteSource source ⌝ }
+{
+    match source {
+        Source::Held(level) => finite(level),
+        Source::Ramp(value, step) => {
+            if finite(value) {
+                return finite(step);
+            }
+            false
+        }
+        Source::Clip(_, _) => true,
+    }
+}
+
+// How many events three lists hold, at most 256.
+pub fn held(a: usize, b: usize, c: usize) -> usize
+    ensures { λ r. ⌜ r ≡ min (a + (b + c)) 256 ⌝ }
+{
+    if 256 <= a {
+        return 256;
+    }
+    if 256 <= b {
+        return 256;
+    }
+    if 256 <= c {
+        return 256;
+    }
+    let sum = a + (b + c);
+    if 256 <= sum { 256 } else { sum }
+}
+
+// Of a push: 3 to 7. `end` is the end or the duration as given, `lasts` is end - start, `held` how many events are held, `next` the next number.
+pub fn push_refusal(
+    start: f64,
+    end: f64,
+    lasts: f64,
+    fade_in: f64,
+    fade_out: f64,
+    source: Source,
+    held: usize,
+    next: u64,
+) -> u64
+    ensures { λ r. ⌜ r ≡ pushRefusal start end lasts «fade_in» «fade_out» source held next ⌝ }
+{
+    if !within(start) {
+        return 3;
+    }
+    if !within_end(end) {
+        return 3;
+    }
+    if !within(fade_in) {
+        return 3;
+    }
+    if !within(fade_out) {
+        return 3;
+    }
+    if lasts < fade_in {
+        return 4;
+    }
+    if lasts < fade_out {
+        return 4;
+    }
+    if !finite_source(source) {
+        return 5;
+    }
+    if 256 <= held {
+        return 6;
+    }
+    if next == 0 {
+        return 7;
+    }
+    0
+}
+
+// An edit would have to be stored for a number that has none, and 256 are stored.
+fn no_room(index: ActiveMap, edits: EditMap, threshold: f64, id: EventId, end: f64) -> bool
+    ensures { λ r. ⌜ r ≡ noRoom index edits threshold id end ⌝ }
+{
+    let found = index.find(id);
+    match found {
+        Found::At(_) => false,
+        Found::Nothing => {
+            if end < threshold {
+                return false;
+            }
+            let n = edits.len;
+            let stored = edits.find(id);
+            match stored {
+                FoundEdit::Stored(_) => false,
+                FoundEdit::Missing => 256 <= n,
+            }
+        }
+    }
+}
+
+// Of an edit: 8 and 9. `end` is the end as given, `until` the same with the clock added where it is relative.
+pub fn edit_refusal(
+    index: ActiveMap,
+    edits: EditMap,
+    threshold: f64,
+    id: EventId,
+    end: f64,
+    until: f64,
+    fade_out: f64,
+) -> u64
+    ensures { λ r. ⌜ r ≡ editRefusal index edits threshold id end until «fade_out» ⌝ }
+{
+    if !within_end(end) {
+        return 8;
+    }
+    if !within(fade_out) {
+        return 8;
+    }
+    if no_room(index, edits, threshold, id, until) {
+        return 9;
+    }
+    0
+}
+
+// Of a tick into an output of `len` samples: 10 and 12.
+pub fn tick_refusal(len: usize, outputs: usize, time: f64, sample_duration: f64) -> u64
+    ensures { λ r. ⌜ r ≡ tickRefusal len outputs time «sample_duration» ⌝ }
+{
+    if len != outputs {
+        return 10;
+    }
+    if !(time + sample_duration <= 1000000000.0) {
+        return 12;
+    }
+    0
+}
+
+// Of a block of `size` samples into an output of `len`: 10 to 12.
+pub fn process_refusal(
+    size: usize,
+    len: usize,
+    outputs: usize,
+    time: f64,
+    sample_duration: f64,
+) -> u64
+    ensures { λ r. ⌜ r ≡ processRefusal size len outputs time «sample_duration» ⌝ }
+{
+    if len % 64 != 0 {
+        return 10;
+    }
+    if len / 64 != outputs {
+        return 10;
+    }
+    if 64 < size {
+        return 11;
+    }
+    if !(time + sample_duration * std::num::nearest_u64_to_f64(size as u64) <= 1000000000.0) {
+        return 12;
+    }
+    0
+}
+
+// Of a rate: 2.
+pub fn rate_refusal(rate: f64) -> u64
+    ensures { λ r. ⌜ r ≡ rateRefusal rate ⌝ }
+{
+    if !(1.0 <= rate) {
+        return 2;
+    }
+    if !(rate <= 1000000.0) {
+        return 2;
+    }
+    0
+}

@@ -1,0 +1,12 @@
+-- `sequencer::Sequencer::push_ready` meets its contract. Assumes nothing.
+use borrow.Author.Needs.{needs}
+use Rattle.sequencer.specs.Moves.{pushedReady}
+use Rattle.sequencer.proofs.Sequencer.push_ready.Statement.{statement}
+use Rattle.sequencer.proofs.Sequencer.push_ready.Tie as tie
+
+returns : tie.Need-returns
+unfolding pushedReady
+returns c = rw (c .before .push .ensures)
+
+pub push-ready-spec : {M : Type 1} → statement M
+push-ready-spec = tie.close (tie.spec (λ c κs. search needs) returns)

@@ -1,0 +1,42 @@
+-- A fresh engine.
+use mathlib.Core.Bool.{Bool, _||_, cond}
+use Prim.Native.Nat.{ℕ}
+use lib.Dec.{ltb, eqb}
+use lib.Ieee.{div}
+use lib.ListN.{replicate}
+use Rattle.event.specs.declared.ReplayMode.{ReplayMode}
+use Rattle.event.specs.declared.ReplayMode.the-variants.{All}
+use Rattle.ready.specs.Waiting as Waiting
+use Rattle.lists.specs.Edits as Edits
+use Rattle.floats.specs.Arithmetic.{_÷ᵈ_, zeroᶠ, oneᶠ, -∞, whole}
+use Rattle.sequencer.specs.declared.Sequencer.{Sequencer}
+use Rattle.sequencer.specs.declared.Outcome.{Outcome}
+use Rattle.sequencer.specs.declared.Answer.the-variants.{Done, Refused}
+
+unfoldable pub freshEngine : (outputs : ℕ) → ReplayMode → (first : ℕ) → Sequencer
+unfolding whole
+freshEngine c m k = record {
+  ready = Waiting.emptied .items;
+  «ready_len» = 0;
+  active = Waiting.emptied .items;
+  «active_len» = 0;
+  «active_map» = replicate 256 (record { 0 = 0 });
+  past = Waiting.emptied .items;
+  «past_len» = 0;
+  «edit_map» = Edits.emptied;
+  time = zeroᶠ;
+  «active_threshold» = -∞;
+  «sample_rate» = whole 44_100;
+  «sample_duration» = oneᶠ ÷ᵈ whole 44_100;
+  outputs = c;
+  mode = m;
+  next = k;
+  «let_go» = 0;
+}
+
+unfoldable pub created : (outputs : ℕ) → ReplayMode → (first : ℕ) → Outcome
+unfolding freshEngine
+created c m k =
+    cond (ltb c 1 || ltb 8 c || eqb k 0)
+    (record { sequencer = freshEngine 1 All 1; answer = Refused 1 })
+    (record { sequencer = freshEngine c m k; answer = Done })

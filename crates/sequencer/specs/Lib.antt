@@ -1,0 +1,11 @@
+pub mod Parts
+pub mod Moves
+pub mod Turns
+pub mod Answers
+pub mod Creation
+pub mod Pushes
+pub mod Edits
+pub mod Resets
+pub mod Rendering
+pub mod Steady
+pub mod Readers

@@ -1,0 +1,39 @@
+-- A push of any kind, on every engine.
+use mathlib.Core.Bool.{cond}
+use Prim.Native.Nat.{ℕ, _+_, _^_, _%_, min}
+use lib.Dec.{eqb}
+use lib.Ieee.{Float, add, sub}
+use Rattle.event.specs.declared.Event.{Event}
+use Rattle.event.specs.declared.Fade.{Fade}
+use Rattle.event.specs.declared.Source.{Source}
+use Rattle.floats.specs.Arithmetic.{_-ᵈ_}
+use Rattle.ledger.specs.Calls.{PushKind}
+use Rattle.ledger.specs.Refusals.{statedEnd}
+use Rattle.ledger.specs.Steps.{pushedTime, newEvent}
+use Rattle.sequencer.specs.declared.Sequencer.{Sequencer}
+use Rattle.sequencer.specs.declared.Outcome.{Outcome}
+use Rattle.sequencer.specs.declared.Answer.the-variants.{Number}
+use Rattle.sequencer.specs.Parts.{withNext}
+use Rattle.sequencer.specs.Moves.{pushedEvent}
+use Rattle.refusals.specs.Refusals.{pushRefusal}
+use Rattle.sequencer.specs.Answers.{refuses}
+
+-- the event enters, and the next number is taken
+abbrev pub enters : Sequencer → Event → Sequencer
+enters s e = withNext (pushedEvent s e) ((s .next + 1) % 2 ^ 64)
+
+unfoldable pub admitted : Sequencer → (start end : Float) → Fade → (fade-in fade-out : Float) → Source → Outcome
+unfolding pushedEvent
+admitted s start end curve fade-in fade-out source = record {
+  sequencer = enters s (newEvent start end fade-in fade-out curve source (s .next));
+  answer = Number (record { 0 = s .next });
+}
+
+unfoldable pub pushes : PushKind → Sequencer → (start end : Float) → Fade → (fade-in fade-out : Float) → Source → Outcome
+unfolding admitted pushRefusal statedEnd pushedTime
+pushes kind s start end curve fade-in fade-out source =
+    let held = min (s .«ready_len» + (s .«active_len» + s .«past_len»)) 256 in
+    let no = pushRefusal start end (statedEnd kind start end -ᵈ start) fade-in fade-out source held (s .next) in
+    cond (eqb no 0)
+    (admitted s (pushedTime kind (s .time) start) (pushedTime kind (s .time) (statedEnd kind start end)) curve fade-in fade-out source)
+    (refuses s no)

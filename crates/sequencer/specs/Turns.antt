@@ -1,0 +1,162 @@
+-- One round of each loop that moves events, and the rounds that are the last.
+use mathlib.Core.Bool.{Bool, true, false, _&&_, cond, and-false}
+use mathlib.Core.List.{List}
+use mathlib.Core.Path.{_≡_, refl, sym, ap, _∙_}
+use Prim.Native.Nat.{ℕ, zero, suc, _+_, _-_, _≤_, _<_}
+use native.Mathlib.Omega.{arith}
+use native.Mathlib.Numerals.{add-one}
+use borrow.Author.Tests.{lt-ltb, le-ltb, le-leb, lt-leb}
+use lib.Dec.{ltb, leb}
+use lib.Ieee.{Float, lt, le}
+use lib.ListN.{getD}
+use Rattle.event.specs.declared.Event.{Event}
+use Rattle.event.specs.Events.{blank, editedBy}
+use Rattle.ready.specs.Waiting.{popped}
+use Rattle.lists.specs.declared.FoundEdit.{FoundEdit}
+use Rattle.lists.specs.declared.FoundEdit.the-variants.{Stored, Missing}
+use Rattle.lists.specs.Edits.{foundEdit, removed}
+use Rattle.sequencer.specs.declared.Sequencer.{Sequencer}
+use Rattle.sequencer.specs.Parts.{withEdits}
+use Rattle.sequencer.specs.Moves.{pushedReady, poppedReady, pushedActive, swapRemoved, pushedPast, activated, activatedBy, activates, finishes, toReady}
+
+cond-same : {A B : Type 0} (f : A → B) (b : Bool) (x y : A) → f x ≡ f y → f (cond b x y) ≡ f y
+cond-same f true x y h = h
+cond-same f false x y h = refl
+
+-- ---- events that start
+
+pub record Activating (s r : Sequencer) : Type 0 where
+  pub fuel : ℕ
+  pub enough : s .«ready_len» ≤ fuel
+  pub gives : activates fuel s ≡ r
+
+pushed-active-len : (s : Sequencer) (e : Event) → pushedActive s e .«ready_len» ≡ s .«ready_len»
+unfolding pushedActive
+pushed-active-len s e = cond-same (λ (x : Sequencer). x .«ready_len») (ltb (s .«active_len») 256) _ s refl
+
+popped-len : (s : Sequencer) → 0 < s .«ready_len» → s .«ready_len» ≤ 256 → poppedReady s .«ready_len» ≡ s .«ready_len» - 1
+unfolding poppedReady popped
+popped-len s p q = rw (lt-ltb 0 (s .«ready_len») p, le-leb (s .«ready_len») 256 q)
+
+pub activated-len : (s : Sequencer) (e : Event) → 0 < s .«ready_len» → s .«ready_len» ≤ 256 → activated s e .«ready_len» ≡ s .«ready_len» - 1
+unfolding activated activatedBy
+activated-len s e p q = go (foundEdit (s .«edit_map») (e .id))
+  where
+    go : (f : FoundEdit) → activatedBy s e f .«ready_len» ≡ s .«ready_len» - 1
+    go (Stored d) =
+        let t = withEdits s (removed (s .«edit_map») (e .id)) in
+        pushed-active-len (poppedReady t) (editedBy d e) ∙ popped-len t p q
+    go Missing = pushed-active-len (poppedReady s) e ∙ popped-len s p q
+
+-- whether the heap's first starts
+abbrev starts : Sequencer → Bool
+starts s = ltb 0 (s .«ready_len») && leb (s .«ready_len») 256 && lt (getD (s .ready) 0 blank .«start_time») (s .«active_threshold»)
+
+module _ (s r : Sequencer) where
+  activated-stop : starts s ≡ false → Activating s r → s ≡ r
+  unfolding activates
+  activated-stop h w = go (w .fuel) (w .gives)
+    where
+      go : (f : ℕ) → activates f s ≡ r → s ≡ r
+      go zero g = g
+      go (suc f) g = rw h at g
+
+  pub activated-none : s .«ready_len» ≤ 0 → Activating s r → s ≡ r
+  activated-none h = activated-stop (rw (le-ltb 0 (s .«ready_len») h))
+
+  pub activated-beyond : 256 < s .«ready_len» → Activating s r → s ≡ r
+  activated-beyond h = activated-stop (rw (lt-leb (s .«ready_len») 256 h, and-false (ltb 0 (s .«ready_len»))))
+
+  pub activated-late : lt (getD (s .ready) 0 blank .«start_time») (s .«active_threshold») ≡ false → Activating s r → s ≡ r
+  activated-late h = activated-stop (rw (h, and-false (ltb 0 (s .«ready_len») && leb (s .«ready_len») 256)))
+
+  pub activating-on : 0 < s .«ready_len» → s .«ready_len» ≤ 256 → lt (getD (s .ready) 0 blank .«start_time») (s .«active_threshold») ≡ true
+      → Activating s r → Activating (activated s (getD (s .ready) 0 blank)) r
+  unfolding activates
+  activating-on p q h w = go (w .fuel) (w .enough) (w .gives)
+    where
+      go : (f : ℕ) → s .«ready_len» ≤ f → activates f s ≡ r → Activating (activated s (getD (s .ready) 0 blank)) r
+      go zero e g = absurd (omega arith)
+      go (suc f) e g = record {
+        fuel = f;
+        enough = omega (arith, activated-len s (getD (s .ready) 0 blank) p q);
+        gives = rw (lt-ltb 0 (s .«ready_len») p, le-leb (s .«ready_len») 256 q, h) at g;
+      }
+
+-- ---- events that end
+
+pub record Finishing (limit : Float) (s : Sequencer) (i : ℕ) (r : Sequencer) : Type 0 where
+  pub fuel : ℕ
+  pub enough : s .«active_len» ≤ i + fuel
+  pub gives : finishes fuel limit s i ≡ r
+
+pushed-past-len : (s : Sequencer) (e : Event) → pushedPast s e .«active_len» ≡ s .«active_len»
+unfolding pushedPast
+pushed-past-len s e = cond-same (λ (x : Sequencer). x .«active_len») (ltb (s .«past_len») 256) _ s refl
+
+swap-removed-len : (s : Sequencer) (i : ℕ) → i < s .«active_len» → s .«active_len» ≤ 256 → swapRemoved s i .«active_len» ≡ s .«active_len» - 1
+unfolding swapRemoved
+swap-removed-len s i p q = rw (lt-ltb i (s .«active_len») p, le-leb (s .«active_len») 256 q)
+
+pub finished-len : (s : Sequencer) (i : ℕ) (e : Event) → i < s .«active_len» → s .«active_len» ≤ 256 → pushedPast (swapRemoved s i) e .«active_len» ≡ s .«active_len» - 1
+finished-len s i e p q = pushed-past-len (swapRemoved s i) e ∙ swap-removed-len s i p q
+
+module _ (limit : Float) (s : Sequencer) (i : ℕ) (r : Sequencer) where
+  finished-stop : (ltb i (s .«active_len») && leb (s .«active_len») 256) ≡ false → Finishing limit s i r → s ≡ r
+  unfolding finishes
+  finished-stop h w = go (w .fuel) (w .gives)
+    where
+      go : (f : ℕ) → finishes f limit s i ≡ r → s ≡ r
+      go zero g = g
+      go (suc f) g = rw h at g
+
+  pub finished-end : s .«active_len» ≤ i → Finishing limit s i r → s ≡ r
+  finished-end h = finished-stop (rw (le-ltb i (s .«active_len») h))
+
+  pub finished-beyond : 256 < s .«active_len» → Finishing limit s i r → s ≡ r
+  finished-beyond h = finished-stop (rw (lt-leb (s .«active_len») 256 h, and-false (ltb i (s .«active_len»))))
+
+  pub finishing-on : i < s .«active_len» → s .«active_len» ≤ 256 → le (getD (s .active) i blank .«end_time») limit ≡ false → Finishing limit s i r → Finishing limit s (i + 1) r
+  unfolding finishes
+  finishing-on p q h w = go (w .fuel) (w .enough) (w .gives)
+    where
+      go : (f : ℕ) → s .«active_len» ≤ i + f → finishes f limit s i ≡ r → Finishing limit s (i + 1) r
+      go zero e g = absurd (omega arith)
+      go (suc f) e g = rw add-one (record { fuel = f; enough = omega arith; gives = rw (lt-ltb i (s .«active_len») p, le-leb (s .«active_len») 256 q, h) at g })
+
+  pub finishing-off : i < s .«active_len» → s .«active_len» ≤ 256 → le (getD (s .active) i blank .«end_time») limit ≡ true → Finishing limit s i r
+      → Finishing limit (pushedPast (swapRemoved s i) (getD (s .active) i blank)) i r
+  unfolding finishes
+  finishing-off p q h w = go (w .fuel) (w .enough) (w .gives)
+    where
+      turn : (f : ℕ) → finishes (suc f) limit s i ≡ finishes f limit (pushedPast (swapRemoved s i) (getD (s .active) i blank)) i
+      turn f = rw (lt-ltb i (s .«active_len») p, le-leb (s .«active_len») 256 q, h)
+
+      go : (f : ℕ) → s .«active_len» ≤ i + f → finishes f limit s i ≡ r → Finishing limit (pushedPast (swapRemoved s i) (getD (s .active) i blank)) i r
+      go zero e g = absurd (omega arith)
+      go (suc f) e g = record { fuel = f; enough = omega (arith, finished-len s i (getD (s .active) i blank) p q); gives = sym (turn f) ∙ g }
+
+-- ---- events of a list wait again
+
+pub record Readying (n : ℕ) (xs : List Event) (i : ℕ) (s r : Sequencer) : Type 0 where
+  pub fuel : ℕ
+  pub exact : i + fuel ≡ n
+  pub gives : toReady fuel xs i s ≡ r
+
+module _ (n : ℕ) (xs : List Event) (i : ℕ) (s r : Sequencer) where
+  -- ys is the engine's list, which a push to the heap leaves as it is
+  pub readying-on : (ys : List Event) (t : Sequencer) → ys ≡ xs → t ≡ pushedReady s (getD ys i blank) → i < n → Readying n xs i s r → Readying n xs (i + 1) t r
+  unfolding toReady
+  readying-on ys t same made l w = rw (made, same) (go (w .fuel) (w .exact) (w .gives))
+    where
+      go : (f : ℕ) → i + f ≡ n → toReady f xs i s ≡ r → Readying n xs (i + 1) (pushedReady s (getD xs i blank)) r
+      go zero e g = absurd (omega arith)
+      go (suc f) e g = rw add-one (record { fuel = f; exact = omega arith; gives = g })
+
+  pub readied : n ≤ i → Readying n xs i s r → s ≡ r
+  unfolding toReady
+  readied l w = go (w .fuel) (w .exact) (w .gives)
+    where
+      go : (f : ℕ) → i + f ≡ n → toReady f xs i s ≡ r → s ≡ r
+      go zero e g = g
+      go (suc f) e g = absurd (omega arith)

@@ -1,0 +1,241 @@
+// Events move between the heap, the sounding list and the finished list. A list that is full, or whose count is corrupt, stays as it is.
+ghost use mathlib.Core.Path.{_≡_};
+ghost use Prim.Native.Nat.{min};
+ghost use Rattle.sequencer.specs.Moves.{pushedReady, poppedReady, pushedActive, swapRemoved, pushedPast, pushedEvent, pushedRelative, activated, readyToActive, activeToPast, releasedPast, advanced, toReady, allToReady};
+use crate::Sequencer;
+use event::Event;
+use event::ReplayMode;
+use lists::FoundEdit;
+use ready::Ready;
+
+pub(crate) fn capped(n: usize) -> usize
+    ensures { λ r. ⌜ r ≡ min n 256 ⌝ }
+{
+    if n < 256 { n } else { 256 }
+}
+
+impl Sequencer {
+    // ---- one event
+
+    fn push_ready(mut self, event: Event) -> Sequencer
+        ensures { λ r. ⌜ r ≡ pushedReady self event ⌝ }
+    {
+        let items = self.ready;
+        let heap = Ready {
+            items: items,
+            len: self.ready_len,
+        };
+        let heap = heap.push(event);
+        let items = heap.items;
+        self.ready = items;
+        self.ready_len = heap.len;
+        self
+    }
+
+    fn pop_ready(mut self) -> Sequencer
+        ensures { λ r. ⌜ r ≡ poppedReady self ⌝ }
+    {
+        let items = self.ready;
+        let heap = Ready {
+            items: items,
+            len: self.ready_len,
+        };
+        let heap = heap.pop();
+        let items = heap.items;
+        self.ready = items;
+        self.ready_len = heap.len;
+        self
+    }
+
+    fn push_active(mut self, event: Event) -> Sequencer
+        ensures { λ r. ⌜ r ≡ pushedActive self event ⌝ }
+    {
+        let n = self.active_len;
+        let id = event.id;
+        if n < 256 {
+            self.active[n] = event;
+            self.active_map[n] = id;
+            self.active_len = n + 1;
+        }
+        self
+    }
+
+    // The last fills place i of the sounding list and of its index.
+    fn swap_remove_active(mut self, i: usize) -> Sequencer
+        ensures { λ r. ⌜ r ≡ swapRemoved self i ⌝ }
+    {
+        let n = self.active_len;
+        if 256 < n {
+            return self;
+        }
+        if n <= i {
+            return self;
+        }
+        let last = self.active[n - 1];
+        self.active[i] = last;
+        let id = self.active_map[n - 1];
+        self.active_map[i] = id;
+        self.active_len = n - 1;
+        self
+    }
+
+    fn push_past(mut self, event: Event) -> Sequencer
+        ensures { λ r. ⌜ r ≡ pushedPast self event ⌝ }
+    {
+        let n = self.past_len;
+        if n < 256 {
+            self.past[n] = event;
+            self.past_len = n + 1;
+        }
+        self
+    }
+
+    // ---- a push, unchecked
+
+    // Straight to the sounding list if it starts before the threshold, without looking for an edit; otherwise it waits.
+    pub fn push_event(self, event: Event) -> Sequencer
+        ensures { λ r. ⌜ r ≡ pushedEvent self event ⌝ }
+    {
+        if event.start_time < self.active_threshold {
+            return self.push_active(event);
+        }
+        self.push_ready(event)
+    }
+
+    // The clock is added to start and end.
+    pub fn push_relative_event(self, mut event: Event) -> Sequencer
+        ensures { λ r. ⌜ r ≡ pushedRelative self event ⌝ }
+    {
+        event.start_time = event.start_time + self.time;
+        event.end_time = event.end_time + self.time;
+        self.push_event(event)
+    }
+
+    // ---- the beginning of a tick or a block
+
+    // The first of the heap becomes active, with its edit.
+    fn activate(mut self, event: Event) -> Sequencer
+        ensures { λ r. ⌜ r ≡ activated self event ⌝ }
+    {
+        let edits = self.edit_map;
+        let id = event.id;
+        let found = edits.find(id);
+        match found {
+            FoundEdit::Stored(edit) => {
+                let event = event.edited(edit);
+                let edits = edits.remove(id);
+                self.edit_map = edits;
+                let s = self.pop_ready();
+                s.push_active(event)
+            }
+            FoundEdit::Missing => {
+                let s = self.pop_ready();
+                s.push_active(event)
+            }
+        }
+    }
+
+    // While the heap's first starts before the threshold it becomes active.
+    fn ready_to_active(mut self) -> Sequencer
+        ensures { λ r. ⌜ r ≡ readyToActive self ⌝ }
+    {
+        while 0 < self.ready_len {
+            if 256 < self.ready_len {
+                break;
+            }
+            let first = self.ready[0];
+            if !(first.start_time < self.active_threshold) {
+                break;
+            }
+            self = self.activate(first);
+        }
+        self
+    }
+
+    // An event that ends by `limit` is past, and the last fills its place.
+    fn active_to_past(mut self, limit: f64) -> Sequencer
+        ensures { λ r. ⌜ r ≡ activeToPast self limit ⌝ }
+    {
+        let mut i = 0;
+        while i < self.active_len {
+            if 256 < self.active_len {
+                break;
+            }
+            let event = self.active[i];
+            if event.end_time <= limit {
+                self = self.swap_remove_active(i);
+                self = self.push_past(event);
+            } else {
+                i = i + 1;
+            }
+        }
+        self
+    }
+
+    // In mode None the finished are let go.
+    fn release_past(mut self) -> Sequencer
+        ensures { λ r. ⌜ r ≡ releasedPast self (self .mode) ⌝ }
+    {
+        let mode = self.mode;
+        match mode {
+            ReplayMode::All => self,
+            ReplayMode::None => {
+                self.let_go = std::num::wrapping_add_u64(self.let_go, self.past_len as u64);
+                self.past_len = 0;
+                self
+            }
+        }
+    }
+
+    // The lists, the threshold and the clock of a tick or block that ends at `end`.
+    pub(crate) fn advance(self, end: f64) -> Sequencer
+        ensures { λ r. ⌜ r ≡ advanced self end ⌝ }
+    {
+        let limit = self.time + 0.5 * self.sample_duration;
+        let threshold = end - self.sample_duration * 0.5;
+        let mut s = self.release_past();
+        s.active_threshold = threshold;
+        let s = s.ready_to_active();
+        let mut s = s.active_to_past(limit);
+        s.time = end;
+        s
+    }
+
+    // ---- everything waits again
+
+    fn past_to_ready(mut self) -> Sequencer
+        ensures { λ r. ⌜ r ≡ toReady (min (self .«past_len») 256) (self .past) 0 self ⌝ }
+    {
+        let n = capped(self.past_len);
+        let mut i = 0;
+        while i < n {
+            let event = self.past[i];
+            self = self.push_ready(event);
+            i = i + 1;
+        }
+        self
+    }
+
+    fn active_to_ready(mut self) -> Sequencer
+        ensures { λ r. ⌜ r ≡ toReady (min (self .«active_len») 256) (self .active) 0 self ⌝ }
+    {
+        let n = capped(self.active_len);
+        let mut i = 0;
+        while i < n {
+            let event = self.active[i];
+            self = self.push_ready(event);
+            i = i + 1;
+        }
+        self
+    }
+
+    pub(crate) fn all_to_ready(self) -> Sequencer
+        ensures { λ r. ⌜ r ≡ allToReady self ⌝ }
+    {
+        let s = self.past_to_ready();
+        let mut s = s.active_to_ready();
+        s.past_len = 0;
+        s.active_len = 0;
+        s
+    }
+}
