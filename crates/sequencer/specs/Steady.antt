@@ -34,29 +34,33 @@ module _ {T : Type 0} (next : Event → Event) (plus : T → Event → T) (z : T
   abbrev pub passOf : Sequencer → Passed Event T
   passOf a = passes next plus blank (min (a .«active_len») 256) (a .active) 0 z
 
-  pub passing-start : (J : Sequencer) (m : ℕ) (x : T) → m ≡ min (J .«active_len») 256 → x ≡ z → Passing J m 0 J x
-  passing-start J m x h q = rw q (record { count = h; same = refl; fuel = m; exact = omega arith; gives = refl })
+module _ {T : Type 0} {next : Event → Event} {plus : T → Event → T} {z : T} {J : Sequencer} {m : ℕ} where
+  pub passing-start : {x : T} → m ≡ min (J .«active_len») 256 → x ≡ z → Passing next plus z J m 0 J x
+  passing-start h q = rw q (record { count = h; same = refl; fuel = m; exact = omega arith; gives = refl })
 
-  module _ (J : Sequencer) (m i : ℕ) (S : Sequencer) (x : T) where
-    abbrev at : Event
-    at = getD (S .active) i blank
-
-    pub passing-on : (e : Event) (y : T) → e ≡ next at → y ≡ plus x at → i < m → Passing J m i S x → Passing J m (i + 1) (withSounding S (set (S .active) i e)) y
+  module _ {i : ℕ} {S : Sequencer} {x : T} where
+    pub passing-on : {e : Event} {y : T} → e ≡ next (getD (S .active) i blank) → y ≡ plus x (getD (S .active) i blank) → i < m → Passing next plus z J m i S x
+        → Passing next plus z J m (i + 1) (withSounding S (set (S .active) i e)) y
     unfolding passes
-    passing-on e y p q l w = rw (p, q) (go (w .fuel) (w .exact) (w .gives))
+    passing-on p q l w = rw (p, q) (go (w .fuel) (w .exact) (w .gives))
       where
-        go : (f : ℕ) → i + f ≡ m → passes next plus blank f (S .active) i x ≡ passes next plus blank m (J .active) 0 z → Passing J m (i + 1) (withSounding S (set (S .active) i (next at))) (plus x at)
+        xs : List Event
+        xs = set (S .active) i (next (getD (S .active) i blank))
+
+        go : (f : ℕ) → i + f ≡ m → passes next plus blank f (S .active) i x ≡ passes next plus blank m (J .active) 0 z
+            → Passing next plus z J m (i + 1) (withSounding S xs) (plus x (getD (S .active) i blank))
         go zero e g = absurd (omega arith)
-        go (suc f) e g = rw add-one (record { count = w .count; same = ap (λ (s : Sequencer). withSounding s (set (S .active) i (next at))) (w .same); fuel = f; exact = omega arith; gives = g })
+        go (suc f) e g = rw add-one (record { count = w .count; same = ap (λ (s : Sequencer). withSounding s xs) (w .same); fuel = f; exact = omega arith; gives = g })
 
-    pub passing-end : (a : Sequencer) → J ≡ a → m ≤ i → Passing J m i S x → (S ≡ withSounding a (passOf a .items)) × (x ≡ passOf a .sum)
+    pub passing-end : {a : Sequencer} → J ≡ a → m ≤ i → Passing next plus z J m i S x → (S ≡ withSounding a (passOf next plus z a .items)) × (x ≡ passOf next plus z a .sum)
     unfolding passes
-    passing-end a j l w = go (w .fuel) (w .exact) (w .gives)
+    passing-end {a} j l w = go (w .fuel) (w .exact) (w .gives)
       where
-        all : passes next plus blank m (J .active) 0 z ≡ passOf a
-        all = ap (λ (n : ℕ). passes next plus blank n (J .active) 0 z) (w .count) ∙ ap passOf j
+        all : passes next plus blank m (J .active) 0 z ≡ passOf next plus z a
+        all = ap (λ (n : ℕ). passes next plus blank n (J .active) 0 z) (w .count) ∙ ap (passOf next plus z) j
 
-        go : (f : ℕ) → i + f ≡ m → passes next plus blank f (S .active) i x ≡ passes next plus blank m (J .active) 0 z → (S ≡ withSounding a (passOf a .items)) × (x ≡ passOf a .sum)
+        go : (f : ℕ) → i + f ≡ m → passes next plus blank f (S .active) i x ≡ passes next plus blank m (J .active) 0 z
+            → (S ≡ withSounding a (passOf next plus z a .items)) × (x ≡ passOf next plus z a .sum)
         go zero e g = (
           w .same ∙ ap (λ (s : Sequencer). withSounding s (S .active)) j ∙ ap (λ (r : Passed Event T). withSounding a (r .items)) (g ∙ all),
           ap (λ (r : Passed Event T). r .sum) (g ∙ all),
@@ -70,12 +74,12 @@ pub record Scanning (limit : Float) (s : Sequencer) (n k : ℕ) : Type 0 where
   pub bound : k ≤ n
   pub stays : (j : ℕ) → j < k → (getD (s .active) j blank .«end_time» ≤ᶠ limit) ≡ false
 
-module _ (limit : Float) (s : Sequencer) (n : ℕ) where
+module _ {limit : Float} {s : Sequencer} {n : ℕ} where
   pub scanning-start : n ≡ min (s .«active_len») 256 → Scanning limit s n 0
   scanning-start h = record { count = h; bound = omega arith; stays = λ j l. absurd (omega arith) }
 
-  pub scanning-on : (k : ℕ) → k < n → (getD (s .active) k blank .«end_time» ≤ᶠ limit) ≡ false → Scanning limit s n k → Scanning limit s n (k + 1)
-  scanning-on k l h w = record { count = w .count; bound = omega arith; stays = λ j m. go j m (decLt j k) }
+  pub scanning-on : {k : ℕ} → k < n → (getD (s .active) k blank .«end_time» ≤ᶠ limit) ≡ false → Scanning limit s n k → Scanning limit s n (k + 1)
+  scanning-on {k} l h w = record { count = w .count; bound = omega arith; stays = λ j m. go j m (decLt j k) }
     where
       go : (j : ℕ) → j < k + 1 → Dec (j < k) → (getD (s .active) j blank .«end_time» ≤ᶠ limit) ≡ false
       go j m (yes b) = w .stays j b
@@ -125,12 +129,12 @@ or-right true true h = h
 or-right true false h = refl
 or-right false b h = h
 
--- only the clock and the threshold change
-pub steady : (s : Sequencer) (e : Float) (k n : ℕ) → Scanning (s .time +ᵈ halfᶠ ×ᵈ s .«sample_duration») s n k → s .«let_go» < 2 ^ 64
-    → listsChange (ltb k n) (s .mode) (s .«past_len») (s .«ready_len») (getD (s .ready) 0 blank .«start_time») (e -ᵈ s .«sample_duration» ×ᵈ halfᶠ) ≡ false
-    → withTimes s e (e -ᵈ s .«sample_duration» ×ᵈ halfᶠ) ≡ advanced s e
+-- r is what `lists_change` returns; only the clock and the threshold change
+pub steady : {s : Sequencer} {k n : ℕ} {r : Bool} (e : Float) → Scanning (s .time +ᵈ halfᶠ ×ᵈ s .«sample_duration») s n k
+    → (r ≡ listsChange (ltb k n) (s .mode) (s .«past_len») (s .«ready_len») (getD (s .ready) 0 blank .«start_time») (e -ᵈ s .«sample_duration» ×ᵈ halfᶠ)) × (s .«let_go» < 2 ^ 64)
+    → r ≡ false → withTimes s e (e -ᵈ s .«sample_duration» ×ᵈ halfᶠ) ≡ advanced s e
 unfolding advanced readyToActive activeToPast listsChange
-steady s e k n q l h = sym (ap F p ∙ ap G w ∙ ap H z)
+steady {s} {k} {n} e q c f = sym (ap F p ∙ ap G w ∙ ap H z)
   where
     θ : Float
     θ = e -ᵈ s .«sample_duration» ×ᵈ halfᶠ
@@ -141,11 +145,14 @@ steady s e k n q l h = sym (ap F p ∙ ap G w ∙ ap H z)
     starts : Bool
     starts = not (eqb (s .«ready_len») 0) && getD (s .ready) 0 blank .«start_time» <ᶠ θ
 
+    none : (ltb k n || (starts || releases (s .mode) (s .«past_len»))) ≡ false
+    none = sym (c .0) ∙ f
+
     more : (starts || releases (s .mode) (s .«past_len»)) ≡ false
-    more = or-right (ltb k n) (starts || releases (s .mode) (s .«past_len»)) h
+    more = or-right (ltb k n) (starts || releases (s .mode) (s .«past_len»)) none
 
     all : n ≤ k
-    all = ltb-false k n (or-left (ltb k n) (starts || releases (s .mode) (s .«past_len»)) h)
+    all = ltb-false k n (or-left (ltb k n) (starts || releases (s .mode) (s .«past_len»)) none)
 
     less : s .«active_len» ≤ 256 → (j : ℕ) → j < s .«active_len» → j < k
     less b j m = omega (arith, q .count, all)
@@ -163,7 +170,7 @@ steady s e k n q l h = sym (ap F p ∙ ap G w ∙ ap H z)
     S = withTimes s (s .time) θ
 
     p : releasedPast s (s .mode) ≡ s
-    p = none-leaves s (s .mode) l (or-right starts (releases (s .mode) (s .«past_len»)) more)
+    p = none-leaves s (s .mode) (c .1) (or-right starts (releases (s .mode) (s .«past_len»)) more)
 
     w : activates (s .«ready_len») S ≡ S
     w = none-starts S (or-left starts (releases (s .mode) (s .«past_len»)) more)

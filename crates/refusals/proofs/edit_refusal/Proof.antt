@@ -1,10 +1,18 @@
 -- `refusals::edit_refusal` meets its contract. Assumes nothing.
 use borrow.Author.Tests.{not-true, not-false}
-use mathlib.Core.Path.{sym, _∙_}
+use mathlib.Core.Bool.{true, _&&_}
+use mathlib.Core.Path.{_≡_, sym, _∙_}
+use Rattle.ledger.specs.Refusals.{within, withinEnd}
 use Rattle.refusals.specs.Refusals.{editRefusal}
 use borrow.Author.Needs.{needs}
 use Rattle.refusals.proofs.edit_refusal.Statement.{statement}
 use Rattle.refusals.proofs.edit_refusal.Tie as tie
+
+end-passes : (c : tie.Else1) → withinEnd (c .before .before .args .end) ≡ true
+end-passes c = sym (c .before .within-end .ensures) ∙ not-false _ (c .if1 .left)
+
+times-pass : (c : tie.Else2) → (let a = c .before .before .before .before .args in (withinEnd (a .end) && within (a .fade-out)) ≡ true)
+times-pass c = rw (end-passes (c .before .before)) (sym (c .before .within .ensures) ∙ not-false _ (c .if2 .left))
 
 returns : tie.Need-returns
 unfolding editRefusal
@@ -12,15 +20,15 @@ returns c = rw (sym (c .before .within-end .ensures) ∙ not-true _ (c .if1 .tak
 
 returns-2 : tie.Need-returns-2
 unfolding editRefusal
-returns-2 c = rw (sym (c .before .before .before .within-end .ensures) ∙ not-false _ (c .before .before .if1 .left), sym (c .before .within .ensures) ∙ not-true _ (c .if2 .taken))
+returns-2 c = rw (end-passes (c .before .before), sym (c .before .within .ensures) ∙ not-true _ (c .if2 .taken))
 
 returns-3 : tie.Need-returns-3
 unfolding editRefusal
-returns-3 c = rw (sym (c .before .before .before .before .before .within-end .ensures) ∙ not-false _ (c .before .before .before .before .if1 .left), sym (c .before .before .before .within .ensures) ∙ not-false _ (c .before .before .if2 .left), sym (c .before .no-room .ensures) ∙ c .if3 .taken)
+returns-3 c = rw (times-pass (c .before .before), sym (c .before .no-room .ensures) ∙ c .if3 .taken)
 
 returns-4 : tie.Need-returns-4
 unfolding editRefusal
-returns-4 c = rw (sym (c .before .before .before .before .before .within-end .ensures) ∙ not-false _ (c .before .before .before .before .if1 .left), sym (c .before .before .before .within .ensures) ∙ not-false _ (c .before .before .if2 .left), sym (c .before .no-room .ensures) ∙ c .if3 .left)
+returns-4 c = rw (times-pass (c .before .before), sym (c .before .no-room .ensures) ∙ c .if3 .left)
 
 pub edit-refusal-spec : {M : Type 1} → statement M
 edit-refusal-spec =

@@ -1,7 +1,7 @@
 -- `refusals::process_refusal` meets its contract. Assumes nothing.
-use borrow.Author.Tests.{lt-ltb, le-ltb, eq-eqb, ne-eqb, not-true, not-false}
+use borrow.Author.Tests.{lt-ltb, le-ltb, eq-eqb, ne-eqb}
 use lib.Ieee.{ofBits, ofInt, round}
-use Rattle.floats.specs.Arithmetic.{_+ᵈ_, _≤ᶠ_, whole}
+use Rattle.floats.specs.Arithmetic.{whole}
 use Rattle.refusals.specs.Refusals.{processRefusal}
 use borrow.Author.Needs.{needs}
 use Rattle.refusals.proofs.process_refusal.Statement.{statement}

@@ -1,7 +1,7 @@
 -- `refusals::tick_refusal` meets its contract. Assumes nothing.
-use borrow.Author.Tests.{eq-eqb, ne-eqb, not-true, not-false}
+use borrow.Author.Tests.{eq-eqb, ne-eqb}
 use lib.Ieee.{ofBits, round}
-use Rattle.floats.specs.Arithmetic.{_+ᵈ_, _≤ᶠ_, whole}
+use Rattle.floats.specs.Arithmetic.{whole}
 use Rattle.refusals.specs.Refusals.{tickRefusal}
 use Rattle.refusals.proofs.tick_refusal.Statement.{statement}
 use Rattle.refusals.proofs.tick_refusal.Tie as tie

@@ -7,11 +7,11 @@ use Rattle.sequencer.proofs.Sequencer.amend.Tie as tie
 
 returns : tie.Need-returns
 unfolding amended
-returns c = rw (← c .before .edit-refusal .ensures, ne-eqb (c .before .edit-refusal .result) 0 (c .if1 .taken))
+returns c = rw (← c .before .edit-refusal .ensures, ne-eqb _ 0 (c .if1 .taken))
 
 returns-2 : tie.Need-returns-2
 unfolding amended
-returns-2 c = rw (← c .before .before .edit-refusal .ensures, eq-eqb (c .before .before .edit-refusal .result) 0 (c .before .if1 .left)) (c .change .ensures)
+returns-2 c = rw (← c .before .before .edit-refusal .ensures, eq-eqb _ 0 (c .before .if1 .left)) (c .change .ensures)
 
 pub amend-spec : {M : Type 1} → statement M
 amend-spec = tie.close

@@ -1,4 +1,4 @@
--- what is found stands in the array
+-- `sequencer::Sequencer::change` meets its contract. Assumes nothing.
 use mathlib.Core.Bool.{Bool, true, false, cond}
 use mathlib.Core.List.{List}
 use mathlib.Core.Path.{_≡_, refl, sym, _∙_, subst}
@@ -18,6 +18,7 @@ use borrow.Author.Needs.{needs}
 use Rattle.sequencer.proofs.Sequencer.change.Statement.{statement}
 use Rattle.sequencer.proofs.Sequencer.change.Tie as tie
 
+-- what is found stands in the array
 abbrev Inside : Found → Type 0
 Inside (At i) = i < 256
 Inside Nothing = Unit {0}
@@ -39,17 +40,8 @@ found-inside a k i h = subst Inside h (go (leb (a .len) 256) (leb-true (a .len) 
     go true l = seek-inside k (a .len) (a .ids) 0 (omega (arith, l refl))
     go false l = tt
 
-mul-event : tie.Need-mul-event
-mul-event c = let h = found-inside (indexOf (c .before .before .before .before .before .args .t1)) (c .before .before .before .before .before .args .id) (c .before .found .given .0 .0) (sym (c .before .before .before .find .ensures) ∙ c .before .found .given .1) in omega arith
-
-element-copy-out-event : tie.Need-element-copy-out-event
-element-copy-out-event c = let h = found-inside (indexOf (c .before .before .before .before .before .args .t1)) (c .before .before .before .before .before .args .id) (c .before .found .given .0 .0) (sym (c .before .before .before .find .ensures) ∙ c .before .found .given .1) in omega arith
-
-mul-event-2 : tie.Need-mul-event-2
-mul-event-2 c = let h = found-inside (indexOf (c .before .before .before .before .before .before .before .args .t1)) (c .before .before .before .before .before .before .before .args .id) (c .before .before .before .found .given .0 .0) (sym (c .before .before .before .before .before .find .ensures) ∙ c .before .before .before .found .given .1) in omega arith
-
-element-set-from-event : tie.Need-element-set-from-event
-element-set-from-event c = let h = found-inside (indexOf (c .before .before .before .before .before .before .before .args .t1)) (c .before .before .before .before .before .before .before .args .id) (c .before .before .before .found .given .0 .0) (sym (c .before .before .before .before .before .find .ensures) ∙ c .before .before .before .found .given .1) in omega arith
+inside : (c : tie.After-known-told) → c .before .found .given .0 .0 < 256
+inside c = found-inside (indexOf (c .before .before .before .before .before .args .t1)) (c .before .before .before .before .before .args .id) (c .before .found .given .0 .0) (sym (c .before .before .before .find .ensures) ∙ c .before .found .given .1)
 
 returns : tie.Need-returns
 unfolding changed changedBy
@@ -66,5 +58,6 @@ returns-3 c = rw (sym (c .before .before .before .before .before .before .find .
 pub change-spec : {M : Type 1} → statement M
 change-spec =
     tie.close
-    (tie.spec (λ c κs. search needs) (λ c. search needs) mul-event element-copy-out-event (λ c κs. search needs) mul-event-2
-    element-set-from-event (λ c. search needs) returns (λ c κs. search needs) returns-2 returns-3)
+    (tie.spec (λ c κs. search needs) (λ c. search needs) (λ c. let h = inside c in omega arith) (λ c. let h = inside c in omega arith)
+    (λ c κs. search needs) (λ c. let h = inside (c .before .before) in omega arith) (λ c. let h = inside (c .before .before) in omega arith)
+    (λ c. search needs) returns (λ c κs. search needs) returns-2 returns-3)

@@ -7,11 +7,14 @@ use Rattle.sequencer.proofs.Sequencer.process.Tie as tie
 
 returns : tie.Need-returns
 unfolding blocks blockOuts
-returns c = (rw (← c .before .process-refusal .ensures, ne-eqb (c .before .process-refusal .result) 0 (c .if1 .taken)), rw (← c .before .process-refusal .ensures, ne-eqb (c .before .process-refusal .result) 0 (c .if1 .taken)))
+returns c = (rw (← c .before .process-refusal .ensures, ne-eqb _ 0 (c .if1 .taken)), rw (← c .before .process-refusal .ensures, ne-eqb _ 0 (c .if1 .taken)))
 
 returns-2 : tie.Need-returns-2
 unfolding blocks blockOuts
-returns-2 c = (rw (← c .before .before .before .before .before .process-refusal .ensures, eq-eqb (c .before .before .before .before .before .process-refusal .result) 0 (c .before .before .before .before .if1 .left), c .before .before .render-block .ensures .0), rw (← c .before .before .before .before .before .process-refusal .ensures, eq-eqb (c .before .before .before .before .before .process-refusal .result) 0 (c .before .before .before .before .if1 .left)) (c .before .before .render-block .ensures .1))
+returns-2 c =
+    let d = c .before .before .before .before in
+    let r = c .before .before .render-block .ensures in
+    (rw (← d .before .process-refusal .ensures, eq-eqb _ 0 (d .if1 .left), r .0), rw (← d .before .process-refusal .ensures, eq-eqb _ 0 (d .if1 .left)) (r .1))
 
 pub process-spec : {M : Type 1} → statement M
 process-spec =

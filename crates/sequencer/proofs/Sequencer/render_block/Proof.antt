@@ -28,6 +28,10 @@ take-replicate zero n a h = refl
 take-replicate (suc k) zero a h = absurd (omega arith)
 take-replicate (suc k) (suc n) a h = ap (λ (r : List _). a ∷ r) (take-replicate k n a (omega arith))
 
+-- the end of a block of x samples
+abbrev endBy : Sequencer → (x : Float) → Float
+endBy s x = s .time +ᵈ s .«sample_duration» ×ᵈ x
+
 -- a block of n samples that ends at e
 abbrev until : Sequencer → ℕ → Float → Span
 until s n e = record { size = min 64 n; clock = s .time; upto = e; rate = s .«sample_rate»; duration = s .«sample_duration» }
@@ -50,20 +54,20 @@ Inv-loop2 size pool out self₀ time end span limit threshold n k m w mix₀ i�
 abbrev μ-loop2 : tie.MeasureT-loop2
 μ-loop2 size pool out self₀ time end span limit threshold n k m w mix₀ i₀ self mix i = m - i
 
-begun : (c : tie.Joined2 Inv-loop μ-loop Inv-loop2 μ-loop2) → c .if2 .self ≡ advanced (c .before .before .before .before .before .before .before .before .before .args .t1) (c .before .before .before .before .before .before .before .before .before .args .t1 .time +ᵈ c .before .before .before .before .before .before .before .before .before .args .t1 .«sample_duration» ×ᵈ c .before .before .before .before .before .before .nearest-u64-to-f64 .result)
+begun : (c : tie.Joined2 Inv-loop μ-loop Inv-loop2 μ-loop2) → (let s = c .before .before .before .before .before .before .before .before .before .args .t1 in c .if2 .self ≡ advanced s (endBy s (c .before .before .before .before .before .before .nearest-u64-to-f64 .result)))
 unfolding ofBits
 begun c =
     let s = c .before .before .before .before .before .before .before .before .before .args .t1 in
-    ⊎-elim (λ w. w .2 ∙ w .1 .ensures) (λ w. w .1 ∙ steady s (s .time +ᵈ s .«sample_duration» ×ᵈ c .before .before .before .before .before .before .nearest-u64-to-f64 .result) (c .before .before .before .before .loop .k) (c .before .before .before .before .before .capped .result) (c .before .before .before .before .loop .inv) (c .before .lists-change .ensures .1) (sym (c .before .lists-change .ensures .0) ∙ w .0 .left)) (c .if2 .came)
+    ⊎-elim (λ w. w .2 ∙ w .1 .ensures) (λ w. w .1 ∙ steady (endBy s (c .before .before .before .before .before .before .nearest-u64-to-f64 .result)) (c .before .before .before .before .loop .inv) (c .before .lists-change .ensures) (w .0 .left)) (c .if2 .came)
 
 loop-again : tie.Need-loop-again Inv-loop μ-loop Inv-loop2 μ-loop2
-loop-again c = scanning-on _ _ _ _ (c .before .before .before .loop-test .taken) (c .if1 .left) (c .before .before .before .before .loop .inv)
+loop-again c = scanning-on (c .before .before .before .loop-test .taken) (c .if1 .left) (c .before .before .before .before .loop .inv)
 
 loop2-holds : tie.Need-loop2-holds Inv-loop μ-loop Inv-loop2 μ-loop2
 unfolding ofBits
 loop2-holds c =
     let k = c .cleared-places .result in
-    (passing-start _ _ _ _ _ _ (c .before .capped2 .ensures) (take-replicate k 64 zeroᶠ (omega (arith, c .cleared-places .ensures)) ∙ ap (λ (n : ℕ). replicate n zeroᶠ) (c .cleared-places .ensures)), refl)
+    (passing-start (c .before .capped2 .ensures) (take-replicate k 64 zeroᶠ (omega (arith, c .cleared-places .ensures)) ∙ ap (λ (n : ℕ). replicate n zeroᶠ) (c .cleared-places .ensures)), refl)
 
 part-mix-end : tie.Need-part-mix-end Inv-loop μ-loop Inv-loop2 μ-loop2
 part-mix-end c = omega (arith, c .before .before .before .cleared-places .ensures, c .before .before .loop2 .inv .1)
@@ -77,16 +81,17 @@ element-set-from-event c = omega (arith, c .before .before .before .before .befo
 loop2-again : tie.Need-loop2-again Inv-loop μ-loop Inv-loop2 μ-loop2
 loop2-again c =
     let k = c .before .before .before .before .before .before .cleared-places .result in
-    let m = c .before .before .before .before .before .loop2 .mix in
-    let ys = c .before .process-event .last .1 .1 .1 .0 in
-    let kept = c .before .process-event .kept .1 .1 .1 .0 in
-    let h : k ≤ length m = omega (arith, c .before .before .before .before .before .before .cleared-places .ensures, c .before .before .before .before .before .loop2 .inv .1) in
-    let q : take k (ys ++ drop (k - 0) m) ≡ ys = take-at ys (drop (k - 0) m) k (kept ∙ rw sub-zero (length-take-le k m h)) in
-    let s = c .before .before .before .before .before .before .before .before .before .before .before .before .before .before .before .before .before .args .t1 in
-    let b = until s (c .before .before .before .before .before .before .before .before .before .before .before .before .before .before .before .before .before .args .size) (s .time +ᵈ s .«sample_duration» ×ᵈ c .before .before .before .before .before .before .before .before .before .before .before .before .before .before .nearest-u64-to-f64 .result) in
-    let v : ys ≡ channelAfter (now (c .before .before .before .before .before .before .before .before .before .before .before .before .before .before .before .before .before .args .pool)) b (getD (c .before .before .before .before .before .loop2 .self .active) (c .before .before .before .before .before .loop2 .i) blank) (take k m) = c .before .process-event .ensures .1 ∙ rw sub-zero in (
-      passing-on _ _ _ _ _ _ _ _ (c .before .process-event .result) (take k (ys ++ drop (k - 0) m)) (c .before .process-event .ensures .0) (q ∙ v) (c .before .before .before .before .loop2-test .taken) (c .before .before .before .before .before .loop2 .inv .0),
-      same-len-mid 0 (k - 0) m ys kept ∙ c .before .before .before .before .before .loop2 .inv .1,
+    let l = c .before .before .before .before .before .loop2 in
+    let r = c .before .process-event in
+    let ys = r .last .1 .1 .1 .0 in
+    let kept = r .kept .1 .1 .1 .0 in
+    let h : k ≤ length (l .mix) = omega (arith, c .before .before .before .before .before .before .cleared-places .ensures, l .inv .1) in
+    let q : take k (ys ++ drop (k - 0) (l .mix)) ≡ ys = take-at ys (drop (k - 0) (l .mix)) k (kept ∙ rw sub-zero (length-take-le k (l .mix) h)) in
+    let a = c .before .before .before .before .before .before .before .before .before .before .before .before .before .before .before .before .before .args in
+    let b = until (a .t1) (a .size) (endBy (a .t1) (c .before .before .before .before .before .before .before .before .before .before .before .before .before .before .nearest-u64-to-f64 .result)) in
+    let v : ys ≡ channelAfter (now (a .pool)) b (getD (l .self .active) (l .i) blank) (take k (l .mix)) = r .ensures .1 ∙ rw sub-zero in (
+      passing-on (r .ensures .0) (q ∙ v) (c .before .before .before .before .loop2-test .taken) (l .inv .0),
+      same-len-mid 0 (k - 0) (l .mix) ys kept ∙ l .inv .1,
     )
 
 part-overlay-channels-end : tie.Need-part-overlay-channels-end Inv-loop μ-loop Inv-loop2 μ-loop2
@@ -95,24 +100,21 @@ part-overlay-channels-end c = omega (arith, c .before .before .before .before .c
 returns : tie.Need-returns Inv-loop μ-loop Inv-loop2 μ-loop2
 unfolding renderedBlock renderedBlockOut blockPass
 returns c =
-    let s = c .before .before .before .before .before .before .before .before .before .before .before .before .before .before .before .before .before .before .before .args .t1 in
-    let n = c .before .before .before .before .before .before .before .before .before .before .before .before .before .before .before .before .before .before .before .args .size in
-    let pool = now (c .before .before .before .before .before .before .before .before .before .before .before .before .before .before .before .before .before .before .before .args .pool) in
-    let out = now (c .before .before .before .before .before .before .before .before .before .before .before .before .before .before .before .before .before .before .before .args .out) in
+    let a = c .before .before .before .before .before .before .before .before .before .before .before .before .before .before .before .before .before .before .before .args in
+    let out = now (a .out) in
     let k = c .before .before .before .before .before .before .before .before .cleared-places .result in
-    let mix = c .before .before .before .before .before .before .before .loop2 .mix in
-    let e = s .time +ᵈ s .«sample_duration» ×ᵈ c .before .before .before .before .before .before .before .before .before .before .before .before .before .before .before .before .nearest-u64-to-f64 .result in
-    let q = ap (λ (x : Float). s .time +ᵈ s .«sample_duration» ×ᵈ x) (c .before .before .before .before .before .before .before .before .before .before .before .before .before .before .before .before .nearest-u64-to-f64 .ensures ∙ sym (whole-is n)) in
-    let w = subst (Done pool n s (c .before .before .before .before .before .before .before .loop2 .self) (take k mix)) q (passing-end (afterBlock (until s n e)) (addBlock pool (until s n e)) (replicate (clearedPlaces n) zeroᶠ) (c .before .before .before .before .before .before .before .before .before .before .if2 .self) (c .before .before .before .before .before .before .before .before .before .capped2 .result) (c .before .before .before .before .before .before .before .loop2 .i) (c .before .before .before .before .before .before .before .loop2 .self) (take k mix) (advanced s e) (begun (c .before .before .before .before .before .before .before .before .before .before)) (c .before .before .before .before .before .before .loop2-test .left) (c .before .before .before .before .before .before .before .loop2 .inv .0)) in
-    let p : take (k - 0) mix ≡ take k mix = rw sub-zero in
+    let l = c .before .before .before .before .before .before .before .loop2 in
+    let q = ap (endBy (a .t1)) (c .before .before .before .before .before .before .before .before .before .before .before .before .before .before .before .before .nearest-u64-to-f64 .ensures ∙ sym (whole-is (a .size))) in
+    let w = subst (Done (now (a .pool)) (a .size) (a .t1) (l .self) (take k (l .mix))) q (passing-end (begun (c .before .before .before .before .before .before .before .before .before .before)) (c .before .before .before .before .before .before .loop2-test .left) (l .inv .0)) in
+    let p : take (k - 0) (l .mix) ≡ take k (l .mix) = rw sub-zero in
     (w .0, c .before .before .overlay-channels .ensures ∙ ap (λ (run : List Float). overlay (length out / 64) (take 64 run) out) (p ∙ w .1))
 
 pub render-block-spec : {M : Type 1} → statement M
 render-block-spec =
     tie.close
-    (tie.spec Inv-loop μ-loop Inv-loop2 μ-loop2 (λ c κs. search needs) (λ c κs. search needs)
-    (λ c. scanning-start _ _ _ (c .capped .ensures)) (λ c. search needs) (λ c. search needs) (λ c. search needs) (λ c. search needs)
-    loop-again (λ c. search needs) (λ c κs. search needs) (λ c κs. search needs) (λ c κs. search needs) (λ c κs. search needs) loop2-holds
-    (λ c. search needs) (λ c. search needs) (λ c. search needs) (λ c. search needs) part-mix-end (λ c κs. search needs) mul-event-3
-    element-set-from-event (λ c. search needs) (λ c. search needs) loop2-again (λ c. search needs) (λ c. search needs)
-    part-overlay-channels-end (λ c κs. search needs) (λ c. search needs) returns)
+    (tie.spec Inv-loop μ-loop Inv-loop2 μ-loop2 (λ c κs. search needs) (λ c κs. search needs) (λ c. scanning-start (c .capped .ensures))
+    (λ c. search needs) (λ c. search needs) (λ c. search needs) (λ c. search needs) loop-again (λ c. search needs) (λ c κs. search needs)
+    (λ c κs. search needs) (λ c κs. search needs) (λ c κs. search needs) loop2-holds (λ c. search needs) (λ c. search needs)
+    (λ c. search needs) (λ c. search needs) part-mix-end (λ c κs. search needs) mul-event-3 element-set-from-event (λ c. search needs)
+    (λ c. search needs) loop2-again (λ c. search needs) (λ c. search needs) part-overlay-channels-end (λ c κs. search needs)
+    (λ c. search needs) returns)

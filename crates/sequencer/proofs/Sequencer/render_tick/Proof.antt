@@ -1,7 +1,7 @@
 -- `sequencer::Sequencer::render_tick` meets its contract. Assumes nothing.
 use borrow.Author.Needs.{needs}
 use mathlib.Core.Logic.{⊎-elim}
-use mathlib.Core.Path.{_≡_, refl, sym, ap, _∙_}
+use mathlib.Core.Path.{_≡_, refl, ap, _∙_}
 use Prim.Native.Nat.{_-_}
 use denote.Ref.{now}
 use lib.Ieee.{ofBits}
@@ -26,33 +26,32 @@ Inv-loop2 pool out self₀ time end limit threshold n k m sum₀ i₀ self sum i
 abbrev μ-loop2 : tie.MeasureT-loop2
 μ-loop2 pool out self₀ time end limit threshold n k m sum₀ i₀ self sum i = m - i
 
-begun : (c : tie.Joined2 Inv-loop μ-loop Inv-loop2 μ-loop2) → c .if2 .self ≡ advanced (c .before .before .before .before .before .before .before .before .args .t1) (tickEnd (c .before .before .before .before .before .before .before .before .args .t1))
+begun : (c : tie.Joined2 Inv-loop μ-loop Inv-loop2 μ-loop2) → (let s = c .before .before .before .before .before .before .before .before .args .t1 in c .if2 .self ≡ advanced s (tickEnd s))
 unfolding ofBits
 begun c =
     let s = c .before .before .before .before .before .before .before .before .args .t1 in
-    ⊎-elim (λ w. w .2 ∙ w .1 .ensures) (λ w. w .1 ∙ steady s (tickEnd s) (c .before .before .before .before .loop .k) (c .before .before .before .before .before .capped .result) (c .before .before .before .before .loop .inv) (c .before .lists-change .ensures .1) (sym (c .before .lists-change .ensures .0) ∙ w .0 .left)) (c .if2 .came)
+    ⊎-elim (λ w. w .2 ∙ w .1 .ensures) (λ w. w .1 ∙ steady (tickEnd s) (c .before .before .before .before .loop .inv) (c .before .lists-change .ensures) (w .0 .left)) (c .if2 .came)
 
 loop-again : tie.Need-loop-again Inv-loop μ-loop Inv-loop2 μ-loop2
-loop-again c = scanning-on _ _ _ _ (c .before .before .before .loop-test .taken) (c .if1 .left) (c .before .before .before .before .loop .inv)
+loop-again c = scanning-on (c .before .before .before .loop-test .taken) (c .if1 .left) (c .before .before .before .before .loop .inv)
 
 loop2-holds : tie.Need-loop2-holds Inv-loop μ-loop Inv-loop2 μ-loop2
 unfolding ofBits
-loop2-holds c = passing-start _ _ _ _ _ _ (c .capped2 .ensures) refl
+loop2-holds c = passing-start (c .capped2 .ensures) refl
 
 loop2-again : tie.Need-loop2-again Inv-loop μ-loop Inv-loop2 μ-loop2
-loop2-again c = passing-on _ _ _ _ _ _ _ _ _ _ (c .after-tick .ensures) (ap (λ x. c .before .before .before .before .loop2 .sum +ˢ x) (c .before .tick-sample .ensures)) (c .before .before .before .loop2-test .taken) (c .before .before .before .before .loop2 .inv)
+loop2-again c = passing-on (c .after-tick .ensures) (ap (λ x. c .before .before .before .before .loop2 .sum +ˢ x) (c .before .tick-sample .ensures)) (c .before .before .before .loop2-test .taken) (c .before .before .before .before .loop2 .inv)
 
 returns : tie.Need-returns Inv-loop μ-loop Inv-loop2 μ-loop2
 unfolding renderedTick renderedTickOut tickPass
 returns c =
-    let s = c .before .before .before .before .before .before .before .before .before .before .before .before .before .before .before .args .t1 in
-    let w = passing-end afterTick (addTick (now (c .before .before .before .before .before .before .before .before .before .before .before .before .before .before .before .args .pool)) (s .time)) zeroᶠ (c .before .before .before .before .before .before .before .if2 .self) (c .before .before .before .before .before .before .capped2 .result) (c .before .before .before .before .before .loop2 .i) (c .before .before .before .before .before .loop2 .self) (c .before .before .before .before .before .loop2 .sum) (advanced s (tickEnd s)) (begun (c .before .before .before .before .before .before .before)) (c .before .before .before .before .loop2-test .left) (c .before .before .before .before .before .loop2 .inv) in
+    let w = passing-end (begun (c .before .before .before .before .before .before .before)) (c .before .before .before .before .loop2-test .left) (c .before .before .before .before .before .loop2 .inv) in
     (w .0, c .before .before .set-all .ensures ∙ ap (replicate (length (now (c .before .before .before .before .before .before .before .before .before .before .before .before .before .before .before .args .out)))) (w .1))
 
 pub render-tick-spec : {M : Type 1} → statement M
 render-tick-spec =
     tie.close
-    (tie.spec Inv-loop μ-loop Inv-loop2 μ-loop2 (λ c κs. search needs) (λ c. scanning-start _ _ _ (c .capped .ensures)) (λ c. search needs)
+    (tie.spec Inv-loop μ-loop Inv-loop2 μ-loop2 (λ c κs. search needs) (λ c. scanning-start (c .capped .ensures)) (λ c. search needs)
     (λ c. search needs) (λ c. search needs) (λ c. search needs) loop-again (λ c. search needs) (λ c κs. search needs) (λ c κs. search needs)
     (λ c κs. search needs) loop2-holds (λ c. search needs) (λ c. search needs) (λ c κs. search needs) (λ c κs. search needs)
     (λ c. search needs) (λ c. search needs) (λ c. search needs) (λ c. search needs) loop2-again (λ c κs. search needs) (λ c. search needs)

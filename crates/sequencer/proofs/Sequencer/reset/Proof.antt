@@ -13,28 +13,30 @@ use Rattle.sequencer.specs.Resets.{clearedEdits, rewoundReady, resetBy, 
 use Rattle.sequencer.proofs.Sequencer.reset.Statement.{statement}
 use Rattle.sequencer.proofs.Sequencer.reset.Tie as tie
 
-reset-all : (s g r : Sequencer) → g ≡ allToReady s → r ≡ rewoundReady g → s .mode ≡ All → withTimes r zeroᶠ -∞ ≡ resets s
+reset-all : (s : Sequencer) {g r : Sequencer} → g ≡ allToReady s → r ≡ rewoundReady g → s .mode ≡ All → withTimes r zeroᶠ -∞ ≡ resets s
 unfolding resetBy
-reset-all s g r p q m = ap (λ (x : Sequencer). withTimes x zeroᶠ -∞) (q ∙ ap rewoundReady p) ∙ sym (ap (resetBy s) m)
+reset-all s p q m = ap (λ (x : Sequencer). withTimes x zeroᶠ -∞) (q ∙ ap rewoundReady p) ∙ sym (ap (resetBy s) m)
 
 abbrev emptied : Sequencer → EditMap → ℕ → Sequencer
 emptied s m l = withTimes (withLetGo (withReady (withActive (withPast (withEdits s m) (s .past) 0) (s .active) (s .«active_map») 0) (s .ready) 0) l) zeroᶠ -∞
 
-reset-none : (s : Sequencer) (a b d l : ℕ) (m : EditMap) → a ≡ min (s .«past_len») 256 → b ≡ min (s .«ready_len») 256 → d ≡ min (s .«active_len») 256
+reset-none : (s : Sequencer) {a b d l : ℕ} {m : EditMap} → a ≡ min (s .«past_len») 256 → b ≡ min (s .«ready_len») 256 → d ≡ min (s .«active_len») 256
     → l ≡ (s .«let_go» + (a + (b + d))) % 2 ^ 64 → m ≡ clearedEdits (s .«edit_map») → s .mode ≡ None → emptied s m l ≡ resets s
 unfolding resetBy
-reset-none s a b d l m p q r w e o =
+reset-none s {m = m} p q r w e o =
     ap (emptied s m) (w ∙ (λ i. (s .«let_go» + (p i + (q i + r i))) % 2 ^ 64))
     ∙ ap (λ (x : EditMap). emptied s x ((s .«let_go» + (min (s .«past_len») 256 + (min (s .«ready_len») 256 + min (s .«active_len») 256))) % 2 ^ 64)) e
     ∙ sym (ap (resetBy s) o)
 
 returns : tie.Need-returns
 unfolding ofBits neg div
-returns c = reset-all (c .before .before .before .before .args .self) (c .before .all-to-ready .result) (c .rewind-ready .result) (c .before .all-to-ready .ensures) (c .rewind-ready .ensures) (c .before .before .enum-told .given .1)
+returns c = reset-all (c .before .before .before .before .args .self) (c .before .all-to-ready .ensures) (c .rewind-ready .ensures) (c .before .before .enum-told .given .1)
 
 returns-2 : tie.Need-returns-2
 unfolding ofBits neg div
-returns-2 c = reset-none (c .before .before .before .before .before .before .before .before .args .self) (c .before .before .before .before .before .capped .result) (c .before .before .before .before .capped2 .result) (c .before .before .before .capped3 .result) (c .before .before .wrapping-add-u64 .result) (c .cleared-edits .result) (c .before .before .before .before .before .capped .ensures) (c .before .before .before .before .capped2 .ensures) (c .before .before .before .capped3 .ensures) (c .before .before .wrapping-add-u64 .ensures) (c .cleared-edits .ensures) (c .before .before .before .before .before .before .enum-told2 .given .1)
+returns-2 c =
+    let n = c .before .before .before in
+    reset-none (c .before .before .before .before .before .before .before .before .args .self) (n .before .before .capped .ensures) (n .before .capped2 .ensures) (n .capped3 .ensures) (c .before .before .wrapping-add-u64 .ensures) (c .cleared-edits .ensures) (c .before .before .before .before .before .before .enum-told2 .given .1)
 
 pub reset-spec : {M : Type 1} → statement M
 reset-spec =

@@ -1,4 +1,4 @@
--- of the n events of s that wait, those before place i are rewound, which made t
+-- `sequencer::Sequencer::rewind_ready` meets its contract. Assumes nothing.
 use borrow.Author.Needs.{needs}
 use mathlib.Core.Path.{_≡_, refl, ap, _∙_}
 use Prim.Native.Nat.{ℕ, zero, suc, _+_, _-_, _≤_, _<_, min}
@@ -14,6 +14,7 @@ use Rattle.sequencer.specs.Resets.{rewinds, rewoundReady}
 use Rattle.sequencer.proofs.Sequencer.rewind_ready.Statement.{statement}
 use Rattle.sequencer.proofs.Sequencer.rewind_ready.Tie as tie
 
+-- of the n events of s that wait, those before place i are rewound, which made t
 record Rewinding (s : Sequencer) (n i : ℕ) (t : Sequencer) : Type 0 where
   count : n ≡ min (s .«ready_len») 256
   same : t ≡ withReady s (t .ready) (s .«ready_len»)
@@ -21,10 +22,10 @@ record Rewinding (s : Sequencer) (n i : ℕ) (t : Sequencer) : Type 0 where
   exact : i + fuel ≡ n
   gives : rewinds fuel (t .ready) i ≡ rewinds n (s .ready) 0
 
-module _ (s : Sequencer) (n i : ℕ) (t : Sequencer) where
-  rewinding-on : (e : Event) → e ≡ rewound (getD (t .ready) i blank) → i < n → Rewinding s n i t → Rewinding s n (i + 1) (withReady t (set (t .ready) i e) (t .«ready_len»))
+module _ {s : Sequencer} {n i : ℕ} {t : Sequencer} where
+  rewinding-on : {e : Event} → e ≡ rewound (getD (t .ready) i blank) → i < n → Rewinding s n i t → Rewinding s n (i + 1) (withReady t (set (t .ready) i e) (t .«ready_len»))
   unfolding rewinds
-  rewinding-on e p l w = rw p (go (w .fuel) (w .exact) (w .gives))
+  rewinding-on p l w = rw p (go (w .fuel) (w .exact) (w .gives))
     where
       xs : List Event
       xs = set (t .ready) i (rewound (getD (t .ready) i blank))
@@ -51,13 +52,11 @@ loop-holds : tie.Need-loop-holds Inv-loop μ-loop
 loop-holds c = record { count = c .capped .ensures; same = refl; fuel = c .capped .result; exact = omega arith; gives = refl }
 
 loop-again : tie.Need-loop-again Inv-loop μ-loop
-loop-again c = rewinding-on _ _ _ _ (c .rewind .result) (c .rewind .ensures) (c .before .before .loop-test .taken) (c .before .before .before .loop .inv)
-
-returns : tie.Need-returns Inv-loop μ-loop
-returns c = rewound-all _ _ _ _ (c .loop-test .left) (c .before .loop .inv)
+loop-again c = rewinding-on (c .rewind .ensures) (c .before .before .loop-test .taken) (c .before .before .before .loop .inv)
 
 pub rewind-ready-spec : {M : Type 1} → statement M
 rewind-ready-spec =
     tie.close
     (tie.spec Inv-loop μ-loop (λ c κs. search needs) loop-holds (λ c. search needs) (λ c. search needs) (λ c κs. search needs)
-    (λ c. search needs) (λ c. search needs) (λ c. search needs) (λ c. search needs) loop-again returns)
+    (λ c. search needs) (λ c. search needs) (λ c. search needs) (λ c. search needs) loop-again
+    (λ c. rewound-all (c .loop-test .left) (c .before .loop .inv)))

@@ -7,11 +7,14 @@ use Rattle.sequencer.proofs.Sequencer.tick.Tie as tie
 
 returns : tie.Need-returns
 unfolding ticks tickOuts
-returns c = (rw (← c .before .tick-refusal .ensures, ne-eqb (c .before .tick-refusal .result) 0 (c .if1 .taken)), rw (← c .before .tick-refusal .ensures, ne-eqb (c .before .tick-refusal .result) 0 (c .if1 .taken)))
+returns c = (rw (← c .before .tick-refusal .ensures, ne-eqb _ 0 (c .if1 .taken)), rw (← c .before .tick-refusal .ensures, ne-eqb _ 0 (c .if1 .taken)))
 
 returns-2 : tie.Need-returns-2
 unfolding ticks tickOuts
-returns-2 c = (rw (← c .before .before .before .before .before .tick-refusal .ensures, eq-eqb (c .before .before .before .before .before .tick-refusal .result) 0 (c .before .before .before .before .if1 .left), c .before .before .render-tick .ensures .0), rw (← c .before .before .before .before .before .tick-refusal .ensures, eq-eqb (c .before .before .before .before .before .tick-refusal .result) 0 (c .before .before .before .before .if1 .left)) (c .before .before .render-tick .ensures .1))
+returns-2 c =
+    let d = c .before .before .before .before in
+    let r = c .before .before .render-tick .ensures in
+    (rw (← d .before .tick-refusal .ensures, eq-eqb _ 0 (d .if1 .left), r .0), rw (← d .before .tick-refusal .ensures, eq-eqb _ 0 (d .if1 .left)) (r .1))
 
 pub tick-spec : {M : Type 1} → statement M
 tick-spec =

@@ -1,0 +1,279 @@
+//! The port against the original, in turns, as a table. README.md says what is compared.
+
+use oracle::{call, state}; // the vendored files name these
+#[path = "../../oracle/src/original/mod.rs"]
+#[rustfmt::skip]
+mod original;
+mod port;
+mod rust;
+mod units;
+
+use original::buffer::{BufferMut, BufferVec};
+use port::bench_now;
+use std::hint::black_box;
+use std::sync::Arc;
+
+/// Turns of each side; the best counts.
+const TURNS: usize = 41;
+/// A turn of the slower side lasts about so long, in nanoseconds.
+const TURN: u64 = 2_000_000;
+/// In so many blocks no clip runs past the pool.
+const BLOCKS: u64 = 2000;
+const POOL: usize = 64 * (BLOCKS as usize + 8);
+
+/// One side: runs so many rounds and gives the time.
+type Side<'a> = &'a mut dyn FnMut(u64) -> u64;
+
+/// The best turn of each side, in nanoseconds a round. The sides take turns; a turn has `most` rounds at most.
+fn best<const N: usize>(most: u64, mut sides: [Side; N]) -> [f64; N] {
+    let few = 4;
+    let slowest = sides.iter_mut().map(|side| side(few)).max().unwrap_or(1);
+    let rounds = (TURN * few / slowest.max(1)).clamp(1, most);
+    let mut least = [u64::MAX; N];
+    for _ in 0..TURNS {
+        for (least, side) in least.iter_mut().zip(&mut sides) {
+            *least = side(rounds).min(*least);
+        }
+    }
+    least.map(|spent| spent as f64 / rounds as f64)
+}
+
+fn timed(rounds: u64, mut call: impl FnMut()) -> u64 {
+    let start = bench_now();
+    for _ in 0..rounds {
+        call();
+    }
+    bench_now() - start
+}
+
+fn head(what: &str) {
+    println!("\n| {what} | ours | Rust | ratio |\n|---|---:|---:|---:|");
+}
+
+/// A line of the table, of so many parts a round.
+fn show(what: &str, [ours, theirs]: [f64; 2], parts: usize) {
+    let (a, b) = (ours / parts as f64, theirs / parts as f64);
+    println!("| {what} | {a:.2} | {b:.2} | {:.2} |", a / b);
+}
+
+fn same(what: &str, ours: &[f32], theirs: &[f32]) {
+    assert_eq!(ours.len(), theirs.len());
+    let equal = |(x, y): (&f32, &f32)| x.to_bits() == y.to_bits();
+    assert!(ours.iter().zip(theirs).all(equal), "{what}: samples differ");
+}
+
+/// The loops on 64 samples. Ours has one row for all channels.
+fn loops(channels: usize, pool: &Arc<[f32]>) {
+    for (kind, name) in [(0, "held"), (1, "ramp"), (2, "clip")] {
+        let mut row = [0.0; 64];
+        let mut unit = units::unit(kind, 7, pool, channels);
+        let mut scratch = BufferVec::new(channels);
+        compare_loop(
+            &format!("fill {name}, {channels} ch"),
+            &mut row,
+            &mut scratch,
+            |row| port::fill(row, pool, black_box(kind)),
+            |scratch| rust::fill(black_box(&mut *unit), black_box(64), scratch),
+        );
+    }
+    for (smooth, rising) in [(true, true), (true, false), (false, true), (false, false)] {
+        let curve = if smooth { "smooth" } else { "power" };
+        let way = if rising { "in" } else { "out" };
+        let what = format!("fade {curve} {way}, {channels} ch");
+        // Compared on a fade that changes the samples; timed at the curve's 1, so that they do not die out, which would be slow.
+        for (phase, step) in [(0.1, 0.01), (if rising { 1.0 } else { 0.0 }, 0.0)] {
+            let mut row = [0.5; 64];
+            let mut scratch = filled(channels);
+            let ours = |row: &mut [f32]| {
+                port::fade(
+                    row,
+                    black_box(smooth),
+                    black_box(rising),
+                    black_box(phase),
+                    step,
+                )
+            };
+            let theirs = |scratch: &mut BufferMut| {
+                let (smooth, rising, phase) = black_box((smooth, rising, phase));
+                rust::fade(scratch, black_box(64), smooth, rising, phase, step)
+            };
+            if step > 0.0 {
+                check_loop(&what, &mut row, &mut scratch, ours, theirs);
+            } else {
+                compare_loop(&what, &mut row, &mut scratch, ours, theirs);
+            }
+        }
+    }
+    let run = [0.5; 64];
+    let mut added = filled(channels);
+    let mut added = added.buffer_mut();
+    compare_loop(
+        &format!("add, {channels} ch"),
+        &mut [0.5; 64],
+        &mut filled(channels),
+        |row| port::add(row, black_box(&run)),
+        |output| rust::add(output, black_box(&mut added), black_box(64)),
+    );
+    // What one side does once a block, and the other not.
+    let mut out = vec![0.5; 64 * channels];
+    let mut output = BufferVec::new(channels);
+    let mut write = || port::overlay(black_box(&mut out), black_box(&run));
+    let mut clear = || rust::clear(&mut black_box(&mut output).buffer_mut(), black_box(8));
+    let times = best(
+        1_000_000,
+        [&mut |n| timed(n, &mut write), &mut |n| timed(n, &mut clear)],
+    );
+    let what = "once a block: ours writes the row to the channels, Rust clears them";
+    show(&format!("{what}, {channels} ch"), times, 64);
+}
+
+fn filled(channels: usize) -> BufferVec {
+    let mut buffer = BufferVec::new(channels);
+    for channel in 0..channels {
+        buffer.channel_f32_mut(channel).fill(0.5);
+    }
+    buffer
+}
+
+/// One round of both sides; every channel of Rust's buffer must have our row.
+fn check_loop(
+    what: &str,
+    row: &mut [f32],
+    buffer: &mut BufferVec,
+    mut ours: impl FnMut(&mut [f32]),
+    mut theirs: impl FnMut(&mut BufferMut),
+) {
+    ours(row);
+    theirs(&mut buffer.buffer_mut());
+    for channel in 0..buffer.channels() {
+        same(what, row, buffer.channel_f32(channel));
+    }
+}
+
+fn compare_loop(
+    what: &str,
+    row: &mut [f32],
+    buffer: &mut BufferVec,
+    mut ours: impl FnMut(&mut [f32]),
+    mut theirs: impl FnMut(&mut BufferMut),
+) {
+    check_loop(what, row, buffer, &mut ours, &mut theirs);
+    let mut ours = || ours(black_box(row));
+    let mut theirs = || theirs(&mut black_box(&mut *buffer).buffer_mut());
+    let times = best(
+        1_000_000,
+        [&mut |n| timed(n, &mut ours), &mut |n| timed(n, &mut theirs)],
+    );
+    show(what, times, 64);
+}
+
+fn heap(n: u64) {
+    for pops in [false, true] {
+        let (ours, theirs) = (port::heap(3, n, pops), rust::heap(3, n, pops));
+        assert_eq!(ours.1, theirs.1, "heap: the orders differ");
+    }
+    let [our_push, push, our_both, both] = best(
+        1_000_000,
+        [
+            &mut |k| port::heap(k, n, false).0,
+            &mut |k| rust::heap(k, n, false).0,
+            &mut |k| port::heap(k, n, true).0,
+            &mut |k| rust::heap(k, n, true).0,
+        ],
+    );
+    let n = n as usize;
+    show(&format!("push, up to {n} events"), [our_push, push], n);
+    show(
+        &format!("pop, from {n} events"),
+        [our_both - our_push, both - push],
+        n,
+    );
+}
+
+/// Blocks or ticks with n events sounding. Both sides make their engine anew for each turn, untimed.
+fn engine(block: bool, joined: bool, n: u64, faded: bool, channels: usize, pool: &Arc<[f32]>) {
+    let call = match (block, joined) {
+        (true, false) => "render_block",
+        (true, true) => "process",
+        (false, false) => "render_tick",
+        (false, true) => "tick",
+    };
+    let sounding = match (n, faded) {
+        (0, _) => "idle".to_string(),
+        (_, false) => format!("{n} sounding"),
+        (_, true) => format!("{n} sounding, both fades"),
+    };
+    let what = format!("{call}, {sounding}, {channels} ch");
+    let fade = if faded { 1000.0 } else { 0.0 };
+    let length = if block { 64 * channels } else { channels };
+    let ours = |rounds, out: &mut [f32]| match block {
+        true => port::blocks(channels, n, fade, rounds, joined, pool, out),
+        false => port::ticks(channels, n, fade, rounds, joined, pool, out),
+    };
+    let theirs = |rounds, out: &mut [f32]| match block {
+        true => rust::blocks(channels, n, fade, rounds, pool, out),
+        false => rust::ticks(channels, n, fade, rounds, pool, out),
+    };
+    let (mut a, mut b) = (vec![-1.0; length], vec![-2.0; length]);
+    for rounds in [0, 1, 20] {
+        assert!(ours(rounds, &mut a) < u64::MAX, "{what}: refused");
+        theirs(rounds, &mut b);
+        same(&what, &a, &b);
+    }
+    let most = if block { BLOCKS } else { 50 * BLOCKS };
+    let times = best(most, [&mut |k| ours(k, &mut a), &mut |k| theirs(k, &mut b)]);
+    show(&what, times, 1);
+}
+
+fn starts(n: u64, pool: &Arc<[f32]>) {
+    let (mut a, mut b) = ([-1.0; 64], [-2.0; 64]);
+    port::starts(n, 2, pool, &mut a);
+    rust::starts(n, 2, pool, &mut b);
+    same("starts", &a, &b);
+    for (part, what) in [(0, "push"), (1, "the block in which they start,")] {
+        let times = best(
+            100,
+            [&mut |k| port::starts(n, k, pool, &mut a)[part], &mut |k| {
+                rust::starts(n, k, pool, &mut b)[part]
+            }],
+        );
+        show(&format!("{what} {n} events"), times, n as usize);
+    }
+}
+
+fn main() {
+    let pool: Arc<[f32]> = (0..POOL).map(|k| (k % 4096) as f32 / 4096.0).collect();
+    let start = bench_now();
+
+    head("sample loops, ns a sample");
+    for channels in [1, 8] {
+        loops(channels, &pool);
+    }
+    head("heap of 72-byte events, ns a call");
+    for n in [16, 256] {
+        heap(n);
+    }
+    for (block, joined, what) in [
+        (true, false, "blocks of 64, engine alone, ns a block"),
+        (true, true, "blocks of 64, with the checks, ns a block"),
+        (false, false, "ticks, engine alone, ns a tick"),
+        (false, true, "ticks, with the checks, ns a tick"),
+    ] {
+        head(what);
+        for channels in [1, 8] {
+            engine(block, joined, 0, false, channels, &pool);
+            for n in [1, 8, 64, 256] {
+                if block || n < 256 {
+                    engine(block, joined, n, false, channels, &pool);
+                    engine(block, joined, n, true, channels, &pool);
+                }
+            }
+        }
+    }
+    head("events that come in, 1 ch, ns an event");
+    for n in [16, 256] {
+        starts(n, &pool);
+    }
+    let seconds = (bench_now() - start) / 1_000_000_000;
+    println!("\nThe best of {TURNS} turns, in turns; {seconds} s in all.");
+}

@@ -1,0 +1,143 @@
+//! The functions of entry.rt.txt. A slice crosses as a pointer and a length.
+
+use std::sync::OnceLock;
+use std::time::Instant;
+
+mod raw {
+    unsafe extern "C" {
+        pub fn port_fill(row: *mut f32, n: usize, pool: *const f32, k: usize, kind: u64);
+        pub fn port_fade(
+            row: *mut f32,
+            n: usize,
+            smooth: bool,
+            rising: bool,
+            phase: f32,
+            step: f32,
+        );
+        pub fn port_add(mix: *mut f32, n: usize, row: *const f32, k: usize);
+        pub fn port_overlay(out: *mut f32, n: usize, mix: *const f32, k: usize);
+        pub fn port_heap(rounds: u64, n: u64, pops: bool, digest: *mut u64, one: usize) -> u64;
+        pub fn port_starts(
+            n: u64,
+            rounds: u64,
+            pool: *const f32,
+            k: usize,
+            out: *mut f32,
+            m: usize,
+            times: *mut u64,
+            two: usize,
+        );
+        pub fn port_blocks(
+            channels: usize,
+            n: u64,
+            fade: f64,
+            rounds: u64,
+            joined: bool,
+            pool: *const f32,
+            k: usize,
+            out: *mut f32,
+            m: usize,
+        ) -> u64;
+        pub fn port_ticks(
+            channels: usize,
+            n: u64,
+            fade: f64,
+            rounds: u64,
+            joined: bool,
+            pool: *const f32,
+            k: usize,
+            out: *mut f32,
+            m: usize,
+        ) -> u64;
+    }
+}
+
+/// The clock of both sides, in nanoseconds.
+#[unsafe(no_mangle)]
+pub extern "C" fn bench_now() -> u64 {
+    static START: OnceLock<Instant> = OnceLock::new();
+    START.get_or_init(Instant::now).elapsed().as_nanos() as u64
+}
+
+pub fn fill(row: &mut [f32], pool: &[f32], kind: u64) {
+    unsafe { raw::port_fill(row.as_mut_ptr(), row.len(), pool.as_ptr(), pool.len(), kind) }
+}
+
+pub fn fade(row: &mut [f32], smooth: bool, rising: bool, phase: f32, step: f32) {
+    unsafe { raw::port_fade(row.as_mut_ptr(), row.len(), smooth, rising, phase, step) }
+}
+
+pub fn add(mix: &mut [f32], row: &[f32]) {
+    unsafe { raw::port_add(mix.as_mut_ptr(), mix.len(), row.as_ptr(), row.len()) }
+}
+
+pub fn overlay(out: &mut [f32], mix: &[f32]) {
+    unsafe { raw::port_overlay(out.as_mut_ptr(), out.len(), mix.as_ptr(), mix.len()) }
+}
+
+/// The time, and a digest of the order.
+pub fn heap(rounds: u64, n: u64, pops: bool) -> (u64, u64) {
+    let mut digest = 0;
+    let spent = unsafe { raw::port_heap(rounds, n, pops, &mut digest, 1) };
+    (spent, digest)
+}
+
+/// The times of the pushes and of the blocks in which they start.
+pub fn starts(n: u64, rounds: u64, pool: &[f32], out: &mut [f32]) -> [u64; 2] {
+    let mut times = [0; 2];
+    let (p, o, t) = (pool.as_ptr(), out.as_mut_ptr(), times.as_mut_ptr());
+    unsafe { raw::port_starts(n, rounds, p, pool.len(), o, out.len(), t, 2) }
+    times
+}
+
+pub fn blocks(
+    channels: usize,
+    n: u64,
+    fade: f64,
+    rounds: u64,
+    joined: bool,
+    pool: &[f32],
+    out: &mut [f32],
+) -> u64 {
+    assert_eq!(out.len(), 64 * channels);
+    let (p, o) = (pool.as_ptr(), out.as_mut_ptr());
+    unsafe {
+        raw::port_blocks(
+            channels,
+            n,
+            fade,
+            rounds,
+            joined,
+            p,
+            pool.len(),
+            o,
+            out.len(),
+        )
+    }
+}
+
+pub fn ticks(
+    channels: usize,
+    n: u64,
+    fade: f64,
+    rounds: u64,
+    joined: bool,
+    pool: &[f32],
+    out: &mut [f32],
+) -> u64 {
+    assert_eq!(out.len(), channels);
+    let (p, o) = (pool.as_ptr(), out.as_mut_ptr());
+    unsafe {
+        raw::port_ticks(
+            channels,
+            n,
+            fade,
+            rounds,
+            joined,
+            p,
+            pool.len(),
+            o,
+            out.len(),
+        )
+    }
+}
