@@ -14,6 +14,8 @@ pub enum Detail {
     Listing,
     /// The desk's two queues too.
     Queues,
+    /// The desk's two queues as counts and digests, for a program without decimal floats.
+    Digest,
     /// Answer, numbers, clock, lists, edits, index, whole output and scratch too.
     Full,
 }
@@ -89,11 +91,55 @@ fn record<P: Player>(
     match detail {
         Detail::Listing => Ok(()),
         Detail::Queues => queues(out, &player.state()),
+        Detail::Digest => digests(out, &player.state()),
         Detail::Full => {
             full(out, step.answer, &player.state())?;
             whole(out, "output", &session.output)?;
             whole(out, "scratch", &session.scratch)
         }
+    }
+}
+
+/// A digest with one more number in it.
+pub fn mixed(digest: u64, value: u64) -> u64 {
+    ((digest << 7) ^ (digest >> 57)).wrapping_add(value)
+}
+
+/// How many messages are queued and numbers returned, each with its digest.
+fn digests(out: &mut impl Write, state: &State) -> io::Result<()> {
+    let messages = state.messages.iter().fold(0, |digest, message| {
+        words(message).into_iter().fold(digest, mixed)
+    });
+    let returned = state.returned.iter().copied().fold(0, mixed);
+    let (queued, back) = (state.messages.len(), state.returned.len());
+    writeln!(out, "{queued} {messages:016x} {back} {returned:016x}")
+}
+
+/// A message in numbers: its kind; an event's number, times, fades, curve and source; an edit's number, end and fade.
+fn words(message: &MessageState) -> Vec<u64> {
+    let event = |kind, event: &EventState| {
+        let curve = match event.curve {
+            Curve::Power => 0,
+            Curve::Smooth => 1,
+        };
+        let (source, word, other) = match event.source {
+            Source::Held { level } => (0, level.to_bits(), 0),
+            Source::Ramp { value, step } => (1, value.to_bits(), step.to_bits()),
+            Source::Clip { offset, length } => (2, offset, length),
+        };
+        let times = [event.start, event.end, event.fade_in, event.fade_out];
+        let mut words = vec![kind, event.number];
+        words.extend(times);
+        words.extend([curve, source, u64::from(word), u64::from(other)]);
+        words
+    };
+    let edit = |kind, edit: &EditState| vec![kind, edit.number, edit.end, edit.fade_out];
+    match message {
+        MessageState::Reset => vec![0],
+        MessageState::Push(pushed) => event(1, pushed),
+        MessageState::PushRelative(pushed) => event(2, pushed),
+        MessageState::Edit(edited) => edit(3, edited),
+        MessageState::EditRelative(edited) => edit(4, edited),
     }
 }
 

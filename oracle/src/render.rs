@@ -8,15 +8,22 @@ use crate::tape::{self, Format};
 
 /// Render a tape into a byte slice; the count of bytes written.
 pub fn render(tape: &[u8], out: &mut [u8], pool: &Pool) -> usize {
+    let ends = render_ends(tape, out, pool);
+    ends.last().copied().unwrap_or(0)
+}
+
+/// Render a tape into a byte slice; where the bytes of each tick and block that fit end.
+pub fn render_ends(tape: &[u8], out: &mut [u8], pool: &Pool) -> Vec<usize> {
     let (calls, _) = tape::records(Format::Tape, tape);
     let Some((creation, calls)) = calls.split_first() else {
-        return 0;
+        return Vec::new();
     };
     let (mut session, answer) = Session::<Engine>::create((), creation, pool);
     if answer.refusal() != 0 {
-        return 0;
+        return Vec::new();
     }
     let mut at = 0;
+    let mut ends = Vec::new();
     for call in calls {
         let Some(count) = session.step(call).samples else {
             continue;
@@ -31,6 +38,7 @@ pub fn render(tape: &[u8], out: &mut [u8], pool: &Pool) -> usize {
                 at += 4;
             }
         }
+        ends.push(at);
     }
-    at
+    ends
 }

@@ -230,3 +230,21 @@ pub fn records(format: Format, tape: &[u8]) -> (Vec<Call>, Option<(Stop, &[u8])>
     }
     (calls, None)
 }
+
+/// The tape as the port's desk_trail can lend: no scratch, and a pool of at most 4,096 samples.
+pub fn as_the_port_lends(format: Format, tape: &[u8]) -> Vec<u8> {
+    let (calls, stop) = records(format, tape);
+    let mut plain = Vec::with_capacity(tape.len());
+    for call in calls {
+        let call = match call {
+            Call::BlockLent(size, output, _) => Call::BlockLent(size, output, None),
+            Call::Pool(length) => Call::Pool(length.min(4_096)),
+            call => call,
+        };
+        write(&mut plain, &call);
+    }
+    if let Some((_, rest)) = stop {
+        plain.extend_from_slice(rest);
+    }
+    plain
+}

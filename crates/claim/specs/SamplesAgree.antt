@@ -40,7 +40,7 @@ module _ (pool : List Float) (t : Float) where
   tick-events (e ∷ l) out = ap (λ (r : List Event). afterTick e ∷ r) (tick-events l (addTick pool t out e))
 
 module _ (pool : List Float) (b : Span) where
-  block-channel : (l : List Event) (channel scratch : List Float) → foldl (addBlock pool b) channel l ≡ blockSum pool b l channel scratch .channel
+  pub block-channel : (l : List Event) (channel scratch : List Float) → foldl (addBlock pool b) channel l ≡ blockSum pool b l channel scratch .channel
   unfolding blockSum
   block-channel [] channel scratch = refl
   block-channel (e ∷ l) channel scratch = block-channel l (channelAfter pool b e channel) (scratchAfter pool b e scratch)
@@ -70,7 +70,7 @@ module _ (pool : List Float) (b : Span) where
       go true = length-added (firstPlace b e) run channel
       go false = refl
 
-  length-channel : (l : List Event) (channel : List Float) → length (foldl (addBlock pool b) channel l) ≡ length channel
+  pub length-channel : (l : List Event) (channel : List Float) → length (foldl (addBlock pool b) channel l) ≡ length channel
   length-channel [] channel = refl
   length-channel (e ∷ l) channel = length-channel l (channelAfter pool b e channel) ∙ length-after e channel
 

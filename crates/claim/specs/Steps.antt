@@ -88,7 +88,7 @@ first-of false b h = h
 -- ---- a push
 
 module _ (s : Sequencer) (l : Ledger) (kind : PushKind) (start end : Float) (curve : Fade) (fade-in fade-out : Float) (source : Source) where
-  keep-push : Lawful l → Related s l → Keeps (gives (pushes kind s start end curve fade-in fade-out source) []) (step l (push kind start end fade-in fade-out curve source))
+  pub keep-push : Lawful l → Related s l → Keeps (gives (pushes kind s start end curve fade-in fade-out source) []) (step l (push kind start end fade-in fade-out curve source))
   unfolding pushes admitted accept checks pushChecks
   keep-push w r = by-refusal s l C N X r (push-refused l kind start end fade-in fade-out curve source H (s .next) counts (spent (l .next) (s .next) (w .positive) (w .next) (r .plain .6))) refl carried
     where
@@ -138,7 +138,7 @@ module _ (s : Sequencer) (l : Ledger) (kind : EditKind) (k : ℕ) (end fade-out 
   abbrev id : EventId
   id = record { 0 = k }
 
-  keep-edit : Related s l → Keeps (gives (edits kind s id end fade-out) []) (step l (edit kind k end fade-out))
+  pub keep-edit : Related s l → Keeps (gives (edits kind s id end fade-out) []) (step l (edit kind k end fade-out))
   unfolding edits amended accept checks editChecks
   keep-edit r = by-refusal s l C N X r agreed refl carried
     where
@@ -177,7 +177,7 @@ module _ (s : Sequencer) (l : Ledger) (kind : EditKind) (k : ℕ) (end fade-out 
 -- ---- a tick
 
 module _ (s : Sequencer) (l : Ledger) (pool out : List Float) where
-  keep-tick : Lawful l → Related s l → Keeps (gives (ticks pool (length out) s) (tickOuts pool s out)) (step l (tick pool out))
+  pub keep-tick : Lawful l → Related s l → Keeps (gives (ticks pool (length out) s) (tickOuts pool s out)) (step l (tick pool out))
   unfolding ticks tickOuts renderedTick renderedTickOut accept checks Checks.tickEnd
   keep-tick w r = by-refusal s l C N X r (tick-refused l pool out (s .outputs) (s .time) (s .«sample_duration») (r .plain .4) (r .plain .0) (r .plain .3)) refl carried
     where
@@ -215,7 +215,7 @@ module _ (s : Sequencer) (l : Ledger) (pool out : List Float) where
 -- ---- a block, which is lent no scratch
 
 module _ (s : Sequencer) (l : Ledger) (n : ℕ) (pool out : List Float) where
-  keep-block : Lawful l → Related s l → Keeps (gives (blocks pool n (length out) s) (blockOuts pool n s out)) (step l (block n pool out none))
+  pub keep-block : Lawful l → Related s l → Keeps (gives (blocks pool n (length out) s) (blockOuts pool n s out)) (step l (block n pool out none))
   unfolding blocks blockOuts renderedBlock renderedBlockOut accept checks Checks.blockEnd
   keep-block w r = by-refusal s l C N X r (block-refused l n pool out (s .outputs) (s .time) (s .«sample_duration») (r .plain .4) (r .plain .0) (r .plain .3)) refl carried
     where
@@ -262,13 +262,13 @@ module _ (s : Sequencer) (l : Ledger) (n : ℕ) (pool out : List Float) where
 
 -- ---- a rate and a reset
 
-keep-rate : (s : Sequencer) (l : Ledger) (r : Float) → Lawful l → Related s l → Keeps (gives (rates s r) []) (step l (rate r))
+pub keep-rate : (s : Sequencer) (l : Ledger) (r : Float) → Lawful l → Related s l → Keeps (gives (rates s r) []) (step l (rate r))
 unfolding rates accept
 keep-rate s l r w h =
     by-refusal s l (rate r) (rateRefusal r) (λ b. gives (cond b (accepts (reRated s r)) (refuses s (rateRefusal r))) []) h (rate-refused l r) refl
     (λ q. (related-rate s l r w h, same-reply (Ledger.answers done)))
 
-keep-reset : (s : Sequencer) (l : Ledger) → Lawful l → Related s l → Keeps (gives (accepts (resets s)) []) (step l reset)
+pub keep-reset : (s : Sequencer) (l : Ledger) → Lawful l → Related s l → Keeps (gives (accepts (resets s)) []) (step l reset)
 unfolding step refusal checks firstOf decide accept
 keep-reset s l w r = (related-reset s l w r, same-reply (Ledger.answers done))
 

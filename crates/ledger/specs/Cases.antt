@@ -1,19 +1,15 @@
--- Document 01's proof sheet, cases 1 to 7, as one theorem computed over the definitions: rate 8, clock 0, one channel. Assumes nothing.
+-- What the computed cases share: rate 8, clock 0, one channel, held 1.0 (the proof sheet itself is crate `sheet`). Assumes nothing.
 use Prim.Native.Nat.{ℕ, _^_}
-use mathlib.Core.Path.{_≡_, refl}
 use mathlib.Core.Bool.{false}
-use mathlib.Core.List.{List, [], _∷_, _++_, map}
-use mathlib.Core.Option.{none}
+use mathlib.Core.List.{List, [], _∷_}
 use lib.IntN.{negsuc}
-use lib.ListN.{length, take, replicate}
-use lib.Ieee.{Float, fin, round, neg, binary64}
-use Rattle.floats.specs.Arithmetic.{zeroᶠ, oneᶠ, halfᶠ, +∞, whole}
-use Rattle.floats.specs.Floats.{index}
+use lib.Ieee.{Float, fin, round, binary64}
+use Rattle.floats.specs.Arithmetic.{oneᶠ, whole}
 use Rattle.math.specs.Curves.{smooth}
 use Rattle.event.specs.declared.Fade.the-variants.{Smooth}
 use Rattle.event.specs.declared.ReplayMode.the-variants.{All}
 use Rattle.event.specs.declared.Source.the-variants.{Held}
-use Rattle.ledger.specs.Calls.{Call, push, tick, block, rate, absolute, Answer, number, refused, Reply}
+use Rattle.ledger.specs.Calls.{Call, push, rate, absolute, Answer, number, Reply}
 use Rattle.ledger.specs.Ledger.{Ledger, fresh}
 use Rattle.ledger.specs.Steps.{run}
 
@@ -43,52 +39,3 @@ abbrev pub lastOut : List Reply → List Float
 lastOut [] = []
 lastOut (r ∷ []) = r .out
 lastOut (r ∷ (q ∷ l)) = lastOut (q ∷ l)
-
--- after one push and one tick: how many wait, sound and are finished, and the sample
-pub record Ticked : Type 0 where
-  pub waiting : ℕ
-  pub sounding : ℕ
-  pub finished : ℕ
-  pub out : List Float
-
-unfoldable pub ticked : Call → Ticked
-unfolding run atRate8
-ticked c =
-    let r = run (c ∷ tick [] (zeroᶠ ∷ []) ∷ []) atRate8 in
-    record { waiting = length (r .ledger .waiting); sounding = length (r .ledger .sounding); finished = length (r .ledger .finished); out = lastOut (r .replies) }
-
-abbrev waits : Ticked
-waits = record { waiting = 1; sounding = 0; finished = 0; out = zeroᶠ ∷ [] }
-
-abbrev sounds : Ticked
-sounds = record { waiting = 0; sounding = 1; finished = 0; out = oneᶠ ∷ [] }
-
-abbrev finishes-unheard : Ticked
-finishes-unheard = record { waiting = 0; sounding = 0; finished = 1; out = zeroᶠ ∷ [] }
-
--- the samples of a block of 16 after one push
-unfoldable pub block16 : Call → List Float
-unfolding run atRate8
-block16 c = take 16 (lastOut (run (c ∷ block 16 [] (replicate 64 zeroᶠ) none ∷ []) atRate8 .replies))
-
-pub record Cases : Type 0 where
-  -- 1. smooth5 at 0, 0.25, 0.5, 0.75, 1 is 0, 0.103515625, 0.5, 0.896484375, 1.
-  pub case1 : map smooth (zeroᶠ ∷ decimal 25 2 ∷ decimal 5 1 ∷ decimal 75 2 ∷ oneᶠ ∷ []) ≡ zeroᶠ ∷ 512ths 53 ∷ halfᶠ ∷ 512ths 459 ∷ oneᶠ ∷ []
-  -- 2. Index of 0.5 is 1, of 2.5 is 3, of -0.5 is 0.
-  pub case2 : map index (decimal 5 1 ∷ decimal 25 1 ∷ neg (decimal 5 1) ∷ []) ≡ 1 ∷ 3 ∷ 0 ∷ []
-  -- 3. First tick: start 0.0625 waits; start 0.06 sounds.
-  pub case3 : map ticked (held1 (decimal 625 4) oneᶠ zeroᶠ zeroᶠ ∷ held1 (decimal 6 2) oneᶠ zeroᶠ zeroᶠ ∷ []) ≡ waits ∷ sounds ∷ []
-  -- 4. End 0.0625 finishes unheard in the first tick; end 0.0626 sounds.
-  pub case4 : map ticked (held1 zeroᶠ (decimal 625 4) zeroᶠ zeroᶠ ∷ held1 zeroᶠ (decimal 626 4) zeroᶠ zeroᶠ ∷ []) ≡ finishes-unheard ∷ sounds ∷ []
-  -- 5. Held 1.0, start 0, end 1, smooth fade-out 0.5, block 16: four of 1, then 1, 0.896484375, 0.5, 0.103515625, then eight 0.
-  pub case5 : block16 (held1 zeroᶠ oneᶠ zeroᶠ halfᶠ) ≡ replicate 4 oneᶠ ++ (oneᶠ ∷ 512ths 459 ∷ halfᶠ ∷ 512ths 53 ∷ replicate 8 zeroᶠ)
-  -- 6. Held 1.0, start 1, end +infinity, smooth fade-in 0.5, block 16: places 8 to 15 are 0, 0.103515625, 0.5, 0.896484375, 1, 1.220703125, 3.375, 11.388671875 (the last three are 625/512, 27/8 and 5831/512).
-  pub case6 : block16 (held1 oneᶠ +∞ halfᶠ zeroᶠ)
-      ≡ replicate 8 zeroᶠ ++ (zeroᶠ ∷ 512ths 53 ∷ halfᶠ ∷ 512ths 459 ∷ oneᶠ ∷ 512ths 625 ∷ fin false 27 (negsuc 2) ∷ 512ths 5831 ∷ [])
-  -- 7. Fade equal to end - start passes; fade 1.01 over 1 gives 4.
-  pub case7 : answersOf (run (held1 zeroᶠ oneᶠ oneᶠ oneᶠ ∷ held1 zeroᶠ oneᶠ (decimal 101 2) zeroᶠ ∷ held1 zeroᶠ oneᶠ zeroᶠ (decimal 101 2) ∷ []) atRate8 .replies)
-      ≡ number 1 ∷ refused 4 ∷ refused 4 ∷ []
-
-pub cases : Cases
-unfolding smooth index neg ticked block16 decimal run atRate8
-cases = record { case1 = refl; case2 = refl; case3 = refl; case4 = refl; case5 = refl; case6 = refl; case7 = refl }

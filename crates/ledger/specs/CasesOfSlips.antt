@@ -4,7 +4,7 @@ use mathlib.Core.Bool.{false}
 use mathlib.Core.List.{List, [], _∷_, _++_}
 use mathlib.Core.Option.{none}
 use lib.IntN.{negsuc}
-use lib.ListN.{length, take, replicate}
+use lib.ListN.{length, take, drop, replicate}
 use lib.Ieee.{Float, fin}
 use Rattle.floats.specs.Arithmetic.{zeroᶠ, oneᶠ, halfᶠ, +∞, whole}
 use Rattle.event.specs.declared.Event.{Event}
@@ -15,7 +15,7 @@ use Rattle.ledger.specs.Calls.{Call, push, edit, tick, block, rate, rese
 use Rattle.ledger.specs.Lists.{numbers}
 use Rattle.ledger.specs.Ledger.{Ledger, fresh}
 use Rattle.ledger.specs.Steps.{run}
-use Rattle.ledger.specs.Cases.{atRate8, held1, decimal, answersOf, lastOut}
+use Rattle.ledger.specs.Cases.{atRate8, held1, decimal, 512ths, answersOf, lastOut}
 
 abbrev one-tick : Call
 one-tick = tick [] (zeroᶠ ∷ [])
@@ -39,9 +39,11 @@ unfolding run atRate8
 repliesOf cs = run cs atRate8 .replies
 
 -- A block is not n ticks: in case 6 the block's place 13 is 1.220703125, and the fourteenth tick gives 1.
-pub block-is-not-ticks : lastOut (repliesOf (held1 oneᶠ +∞ halfᶠ zeroᶠ ∷ replicate 14 one-tick)) ≡ oneᶠ ∷ []
+pub block-is-not-ticks :
+    let late : Call = held1 oneᶠ +∞ halfᶠ zeroᶠ in
+    (take 1 (drop 13 (lastOut (repliesOf (late ∷ block 16 [] (replicate 64 zeroᶠ) none ∷ [])))) ≡ 512ths 625 ∷ []) × (lastOut (repliesOf (late ∷ replicate 14 one-tick)) ≡ oneᶠ ∷ [])
 unfolding repliesOf
-block-is-not-ticks = refl
+block-is-not-ticks = (refl, refl)
 
 -- After a finish i does not grow: of three, the first and the last end, and the last, which fills the first's place, is not skipped.
 pub moved-is-not-skipped :

@@ -94,12 +94,12 @@ module _ (u : ℕ → ℕ) where
   fourSum-setRate l r true = refl
   fourSum-setRate l r false = omega (arith, eventSum-everything byNumber l)
 
-  fourSum-restart : (l : Ledger) (m : ReplayMode) → fourSum (restart l m) ≡ fourSum l
+  pub fourSum-restart : (l : Ledger) (m : ReplayMode) → fourSum (restart l m) ≡ fourSum l
   unfolding restart
   fourSum-restart l All = omega (arith, eventSum-rewound byNumber (everything l), eventSum-everything byNumber l)
   fourSum-restart l None = simp (numberSum-append, numberSum-numbers) (omega arith)
 
-  accept-adds : (l : Ledger) (c : Call) → Adds l (accept l c)
+  pub accept-adds : (l : Ledger) (c : Call) → Adds l (accept l c)
   unfolding accept
   accept-adds l (push kind start end fade-in fade-out curve source) =
       omega (arith, heldSum-enter byNumber l (newEvent (pushedTime kind (l .clock) start) (pushedTime kind (l .clock) (statedEnd kind start end)) fade-in fade-out curve source (l .next)))

@@ -50,7 +50,7 @@ pub record Lawful (l : Ledger) : Type 0 where
 abbrev one : ℕ → ℕ
 one n = 1
 
-lengths : (l : Ledger) → fourSum one l ≡ length (l .gone) + held l
+pub lengths : (l : Ledger) → fourSum one l ≡ length (l .gone) + held l
 lengths l = omega (arith, eventSum-one (l .waiting), eventSum-one (l .sounding), eventSum-one (l .finished), numberSum-one (l .gone))
 
 record Counts (l : Ledger) : Type 0 where

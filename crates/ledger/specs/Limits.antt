@@ -45,7 +45,7 @@ pub record Limits (l : Ledger) : Type 0 where
   pub once : (k : ℕ) → editsOf k (l .edits) ≤ 1
   pub next : l .next ≤ 2 ^ 64
 
-held-is : (l : Ledger) → held l ≡ heldSum one l
+pub held-is : (l : Ledger) → held l ≡ heldSum one l
 held-is l = omega (arith, eventSum-one (l .waiting), eventSum-one (l .sounding), eventSum-one (l .finished))
 
 editSum-one : (x : List StoredEdit) → editSum (λ n. 1) x ≡ length x
@@ -106,7 +106,7 @@ store-count j k d (x ∷ l) = go (eqb (x .id .0) k) refl (store-count j k d l)
 store-once : (k : ℕ) (d : Edit) (x : List StoredEdit) → ((j : ℕ) → editsOf j x ≤ 1) → (j : ℕ) → editsOf j (storeEdit k d x) ≤ 1
 store-once k d x h j = ⊎-elim (λ r. omega (arith, r, h j)) (λ r. omega (arith, r .2)) (store-count j k d x)
 
-store-length : (k : ℕ) (d : Edit) (x : List StoredEdit) → length (storeEdit k d x) ≡ length x + cond (missing (editOf k x)) 1 0
+pub store-length : (k : ℕ) (d : Edit) (x : List StoredEdit) → length (storeEdit k d x) ≡ length x + cond (missing (editOf k x)) 1 0
 unfolding storeEdit editOf
 store-length k d [] = refl
 store-length k d (x ∷ l) = go (eqb (x .id .0) k) refl (store-length k d l)

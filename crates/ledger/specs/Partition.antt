@@ -92,7 +92,7 @@ count-below k a (suc n) h = go (eqb a k) refl (count-below k (suc a) n (omega ar
     go true e r = absurd (omega (arith, eqb→eq a k (subst T (sym e) tt)))
     go false e r = omega arith
 
-count-up : (k a n : ℕ) → times k (upFrom a n) ≤ 1
+pub count-up : (k a n : ℕ) → times k (upFrom a n) ≤ 1
 count-up k a zero = omega arith
 count-up k a (suc n) = go (eqb a k) refl (count-up k (suc a) n)
   where
@@ -108,7 +108,7 @@ times-is k (n ∷ l) = ap (λ m. is k n + m) (times-is k l)
 abbrev pub stands : ℕ → Ledger → ℕ
 stands k l = fourSum (is k) l
 
-once-or-never : (k : ℕ) (l : List ℕ) → times k l ≤ 1 → times k l ≡ cond (among k l) 1 0
+pub once-or-never : (k : ℕ) (l : List ℕ) → times k l ≤ 1 → times k l ≡ cond (among k l) 1 0
 once-or-never k [] h = refl
 once-or-never k (n ∷ l) h = go (eqb n k) h (once-or-never k l (omega arith))
   where

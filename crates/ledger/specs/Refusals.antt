@@ -83,15 +83,18 @@ lengthOr n (some l) = length l
 
 -- 3: a pushed time or fade is NaN or beyond the limit. 4: a fade above end - start, before the clock is added. 5: a held level, ramp value or step is not finite.
 -- 6: 256 events are held. 7: number 2 ^ 64 - 1 has been given.
-unfoldable pub pushChecks : Ledger → PushKind → (start end fade-in fade-out : Float) → Source → List Check
-unfolding withinEnd statedEnd sub lt
-pushChecks l kind start end fade-in fade-out source =
+abbrev pub pushChecksAt : (held next : ℕ) → PushKind → (start end fade-in fade-out : Float) → Source → List Check
+pushChecksAt held next kind start end fade-in fade-out source =
     let lasts = statedEnd kind start end -ᵈ start in
     refuses 3 (not (within start && withinEnd end && within fade-in && within fade-out))
     ∷ refuses 4 (lasts <ᶠ fade-in || lasts <ᶠ fade-out)
     ∷ refuses 5 (not (finiteSource source))
-    ∷ refuses 6 (leb 256 (held l))
-    ∷ refuses 7 (leb (2 ^ 64) (l .next)) ∷ []
+    ∷ refuses 6 (leb 256 held)
+    ∷ refuses 7 (leb (2 ^ 64) next) ∷ []
+
+unfoldable pub pushChecks : Ledger → PushKind → (start end fade-in fade-out : Float) → Source → List Check
+unfolding withinEnd statedEnd sub lt
+pushChecks l kind start end fade-in fade-out source = pushChecksAt (held l) (l .next) kind start end fade-in fade-out source
 
 -- 8: an edit's end or fade breaks 3's limits. 9: it must be stored, its number has none, and 256 are stored.
 unfoldable pub editChecks : Ledger → EditKind → (number : ℕ) → (end fade-out : Float) → List Check

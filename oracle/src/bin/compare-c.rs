@@ -1,7 +1,7 @@
 //! Compares the port's C entry, linked from its static library, with the oracle's bytes.
 
 use oracle::compare::{Options, compare};
-use oracle::render::render as expected_render;
+use oracle::render::{render as expected_render, render_ends};
 use oracle::session::{TRAIL_POOL, pool};
 use oracle::tape::Format;
 use std::process::ExitCode;
@@ -10,6 +10,10 @@ unsafe extern "C" {
     /// Renders a lent tape into a lent byte slice; the count of bytes written.
     fn render(tape: *const u8, tape_length: usize, out: *mut u8, out_length: usize) -> usize;
 }
+
+/// How many ticks and blocks of a tape have their ends tried as the length lent, and up to which length of the tape.
+const ENDS: usize = 24;
+const SHORT: usize = 2_048;
 
 /// What the lent bytes hold before a call, so that those left alone show.
 const MARK: u8 = 0xA5;
@@ -39,9 +43,16 @@ fn run(arguments: &[String]) -> Result<String, String> {
     let mut room = Vec::new();
     let compared = compare(&options, |tape| {
         room.resize(4 * 64 * 8 * tape.len(), MARK);
-        let whole = expected_render(tape, &mut room, &pool);
+        let ends = render_ends(tape, &mut room, &pool);
         room.clear();
-        let lengths = [whole + 5, whole, whole.saturating_sub(1), whole / 2, 0];
+        let whole = ends.last().copied().unwrap_or(0);
+        let mut lengths = vec![whole + 5, whole, whole.saturating_sub(1), whole / 2, 0];
+        let tried = if tape.len() <= SHORT { ENDS } else { 0 };
+        for end in ends.into_iter().take(tried) {
+            lengths.extend([end.saturating_sub(1), end, end + 1]);
+        }
+        lengths.sort_unstable();
+        lengths.dedup();
         lengths.into_iter().find_map(|length| {
             let mut expected = vec![MARK; length];
             let mut got = expected.clone();

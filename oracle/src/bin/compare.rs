@@ -7,7 +7,7 @@ use oracle::generate::Profile;
 use oracle::listing::{Detail, play};
 use oracle::player::Pool;
 use oracle::session::{TRAIL_POOL, pool};
-use oracle::tape::Format;
+use oracle::tape::{Format, as_the_port_lends};
 use std::io::{Read, Write};
 use std::process::{Command, ExitCode, Stdio};
 
@@ -43,6 +43,10 @@ fn run(arguments: &[String]) -> Result<String, String> {
     }
     let pool = pool(TRAIL_POOL);
     let compared = compare(&options, |tape| {
+        let tape = match format {
+            Format::Desk => &as_the_port_lends(format, tape)[..],
+            _ => tape,
+        };
         let expected = listing(format, tape, &pool);
         match output(program, arguments, tape) {
             Ok(got) => first_line(&expected, &got),
@@ -58,7 +62,7 @@ fn run(arguments: &[String]) -> Result<String, String> {
 fn listing(format: Format, tape: &[u8], pool: &Pool) -> Vec<u8> {
     let mut text = Vec::new();
     let played = match format {
-        Format::Desk => play::<Desk>(format, Detail::Queues, (), tape, pool, &mut text),
+        Format::Desk => play::<Desk>(format, Detail::Digest, (), tape, pool, &mut text),
         _ => play::<Engine>(format, Detail::Listing, (), tape, pool, &mut text),
     };
     played.expect("memory takes all");

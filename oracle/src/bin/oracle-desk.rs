@@ -1,5 +1,5 @@
 //! Prints the listing of the desk script on standard input, with the desk's two queues.
-//! `--full` adds the whole state.
+//! `--full` adds the whole state; `--digest` has the queues as counts and digests, as the port's desk_trail prints them.
 
 use oracle::desk::Desk;
 use oracle::listing::{Detail, play};
@@ -11,11 +11,14 @@ use std::process::ExitCode;
 fn main() -> ExitCode {
     let mut detail = Detail::Queues;
     for argument in std::env::args().skip(1) {
-        if argument != "--full" {
-            eprintln!("usage: oracle-desk [--full] < SCRIPT");
-            return ExitCode::from(2);
-        }
-        detail = Detail::Full;
+        detail = match argument.as_str() {
+            "--full" => Detail::Full,
+            "--digest" => Detail::Digest,
+            _ => {
+                eprintln!("usage: oracle-desk [--full | --digest] < SCRIPT");
+                return ExitCode::from(2);
+            }
+        };
     }
     match run(detail) {
         Ok(()) => ExitCode::SUCCESS,

@@ -1,0 +1,9 @@
+pub mod Desk
+pub mod Claim
+pub mod FreshEnd
+pub mod LetGo
+pub mod Lawful
+pub mod Partition
+pub mod ClaimByRelation
+pub mod DeskMeets
+pub mod CasesOfSlips

@@ -1,0 +1,242 @@
+-- The engine follows the plain ledger through a tape: a record's call leaves an engine that stands for the ledger after the record, with the ledger's refusal, and in the front of the output the ledger's samples. Assumes nothing.
+use Prim.Native.Nat.{ℕ, _*_, _/_, _^_, _≤_, _<_}
+use mathlib.Core.Bool.{Bool, true, false, cond}
+use mathlib.Core.Path.{_≡_, refl, sym, ap, _∙_, subst}
+use mathlib.Core.List.{List, [], _++_}
+use mathlib.Core.Option.{none}
+use native.Mathlib.Omega.{arith}
+use lib.Dec.{eqb}
+use lib.Ieee.{Float}
+use lib.ListN.{length, take, drop, length-append, length-take, length-drop, length-replicate}
+use lib.Seq.{length-take-le}
+use borrow.Author.Tests.{eqb-true}
+use Rattle.event.specs.declared.ReplayMode.{ReplayMode}
+use Rattle.event.specs.declared.ReplayMode.the-variants.{All}
+use Rattle.ledger.specs.Calls as Calls
+use Rattle.ledger.specs.Calls.{PushKind, absolute, relative, byDuration, EditKind, absoluteEnd, relativeEnd, tick, block, rate, reset}
+use Rattle.ledger.specs.Ledger.{Ledger, fresh, create}
+use Rattle.ledger.specs.Steps.{step}
+use Rattle.ledger.specs.Lawful.{Lawful, create-lawful, step-lawful}
+use Rattle.sequencer.specs.declared.Sequencer.{Sequencer}
+use Rattle.sequencer.specs.declared.Outcome.{Outcome}
+use Rattle.sequencer.specs.declared.Answer.{Answer}
+use Rattle.sequencer.specs.declared.Answer.the-variants.{Number, Applied as applied, Past, Stored, Done, Refused}
+use Rattle.sequencer.specs.Answers.{answerOf, accepts}
+use Rattle.sequencer.specs.Creation.{created}
+use Rattle.sequencer.specs.Pushes.{pushes}
+use Rattle.sequencer.specs.Edits.{edits}
+use Rattle.sequencer.specs.Moves.{advanced}
+use Rattle.sequencer.specs.Rendering.{tickEnd, tickPass, renderedTickOut, ticks, tickOuts, blockEnd, spanOf, blockPass, renderedBlockOut, blocks, blockOuts}
+use Rattle.refusals.specs.Refusals.{tickRefusal, processRefusal}
+use Rattle.sequencer.specs.Resets.{rates, resets}
+use Rattle.claim.specs.Related.{Related}
+use Rattle.claim.specs.Creating.{related-creation}
+use Rattle.claim.specs.EngineCalls.{gives}
+use Rattle.claim.specs.Steps.{Keeps, keep-push, keep-edit, keep-tick, keep-block, keep-rate, keep-reset}
+use Rattle.tape.specs.declared.reader.Call.{Call}
+use Rattle.tape.specs.declared.reader.Call.the-variants.{Create, Push, PushRelative, PushDuration, Edit, EditRelative, Tick, Process, Reset, SetSampleRate}
+use Rattle.tape.specs.declared.reader.PushRecord.{PushRecord}
+use Rattle.tape.specs.declared.reader.EditRecord.{EditRecord}
+use Rattle.tape.specs.Pool.{trailPool}
+use Rattle.apply.specs.declared.Applied.{Applied}
+use Rattle.apply.specs.Applying as Engine
+use Rattle.apply.specs.Applying.{appliedTo, appliedOut, silentOf, soundingOf, lentTick, lentBlock, ticking, tickingOut, processing, processingOut}
+use Rattle.render.specs.Playing.{Played, refusalOf, silent, channelsOf, heard, pushCall, editCall, play}
+pub use Rattle.render.proofs.Heard.{length-channels}
+use Rattle.render.proofs.Heard.{step-channels, create-few, channels-front, length-overlay, accepted-size, plays-tick, plays-block}
+
+pub record Follows (s : Sequencer) (l : Ledger) : Type 0 where
+  pub related : Related s l
+  pub lawful : Lawful l
+  pub few : l .channels ≤ 8
+
+-- the engine and the ledger before a tape's first record
+pub starts : Follows (created 1 All 1 .sequencer) (fresh 1 All 1)
+unfolding create fresh
+starts = record { related = related-creation 1 All 1 (omega arith) .0; lawful = create-lawful 1 All 1 (omega arith); few = omega arith }
+
+-- what a call gave on the engine, with the output after it, and what the record gives on the ledger
+pub record Followed (a : Applied) (out : List Float) (p : Played) : Type 0 where
+  pub after : Follows (a .sequencer) (p .ledger)
+  pub refusal : a .refusal ≡ p .refusal
+  pub samples : channelsOf (a .channels) (a .each) (a .stride) out ≡ p .samples
+  pub long : length out ≡ 512
+  -- the samples stand within the output
+  pub channels : a .channels ≤ 8
+  pub each : a .each ≤ 64
+  pub stride : a .each ≤ a .stride
+  pub within : a .channels * a .stride ≤ 512
+
+-- a creation's first number is one of 8 bytes
+abbrev pub Readable : Call → Type 0
+Readable (Create channels mode first) = first < 2 ^ 64
+Readable (Push p) = Unit {0}
+Readable (PushRelative p) = Unit {0}
+Readable (PushDuration p) = Unit {0}
+Readable (Edit p) = Unit {0}
+Readable (EditRelative p) = Unit {0}
+Readable Tick = Unit {0}
+Readable (Process n) = Unit {0}
+Readable Reset = Unit {0}
+Readable (SetSampleRate r) = Unit {0}
+
+-- ---- answers
+
+same-refusal : (a : Answer) → Engine.refusalOf a ≡ refusalOf (answerOf a)
+same-refusal (Number k) = refl
+same-refusal applied = refl
+same-refusal Past = refl
+same-refusal Stored = refl
+same-refusal Done = refl
+same-refusal (Refused n) = refl
+
+kept : (s : Sequencer) (l : Ledger) (c : Calls.Call) → Follows s l → {t : Sequencer} → Related t (step l c .ledger) → Follows t (step l c .ledger)
+kept s l c f r = record { related = r; lawful = step-lawful l c (f .lawful); few = omega (arith, step-channels l c, f .few) }
+
+-- ---- a call without samples
+
+soundless : (s : Sequencer) (n : ℕ) (p : Played) (out : List Float) → Follows s (p .ledger) → n ≡ p .refusal → [] ≡ p .samples → length out ≡ 512 → Followed (Engine.silent s n) out p
+unfolding channelsOf
+soundless s n p out f q e long = record {
+  after = f;
+  refusal = q;
+  samples = e;
+  long = long;
+  channels = omega arith;
+  each = omega arith;
+  stride = omega arith;
+  within = omega arith;
+}
+
+module _ (s : Sequencer) (l : Ledger) (f : Follows s l) (out : List Float) (long : length out ≡ 512) where
+  quiet : (c : Calls.Call) (r : Outcome) (x : List Float) → Keeps (gives r x) (step l c) → Followed (silentOf r) out (silent (step l c))
+  quiet c r x k = soundless (r .sequencer) (Engine.refusalOf (r .answer)) (silent (step l c)) out (kept s l c f (k .0)) (same-refusal (r .answer) ∙ ap refusalOf (k .1 .answer)) refl long
+
+  follows-push : (kind : PushKind) (p : PushRecord)
+      → Followed (silentOf (pushes kind s (p .«start_time») (p .«end_time») (p .«fade_ease») (p .«fade_in») (p .«fade_out») (p .source))) out (silent (step l (pushCall kind p)))
+  follows-push kind p =
+      quiet (pushCall kind p) (pushes kind s (p .«start_time») (p .«end_time») (p .«fade_ease») (p .«fade_in») (p .«fade_out») (p .source)) []
+      (keep-push s l kind (p .«start_time») (p .«end_time») (p .«fade_ease») (p .«fade_in») (p .«fade_out») (p .source) (f .lawful) (f .related))
+
+  follows-edit : (kind : EditKind) (p : EditRecord) → Followed (silentOf (edits kind s (p .id) (p .«end_time») (p .«fade_out»))) out (silent (step l (editCall kind p)))
+  follows-edit kind p = quiet (editCall kind p) (edits kind s (p .id) (p .«end_time») (p .«fade_out»)) [] (keep-edit s l kind (p .id .0) (p .«end_time») (p .«fade_out») (f .related))
+
+-- a creation puts a new engine and a new ledger in the place of both
+follows-create : (channels : ℕ) (mode : ReplayMode) (first : ℕ) → first < 2 ^ 64 → (out : List Float) → length out ≡ 512 → (l : Ledger)
+    → Followed (silentOf (created channels mode first)) out (play l (Create channels mode first))
+unfolding play
+follows-create channels mode first h out long l =
+    let o = created channels mode first in
+    let r = related-creation channels mode first h in
+    soundless (o .sequencer) (Engine.refusalOf (o .answer)) (play l (Create channels mode first)) out
+    (record { related = r .0; lawful = create-lawful channels mode first (omega arith); few = create-few channels mode first })
+    (same-refusal (o .answer) ∙ ap refusalOf (r .1)) refl long
+
+-- ---- a tick or block: x is what the engine wrote to the first m places of the output, n channels w apart
+
+module _ (s : Sequencer) (l : Ledger) (f : Follows s l) (out : List Float) (long : length out ≡ 512) (c : Calls.Call) (r : Outcome) (x : List Float) (k : Keeps (gives r x) (step l c)) (m n e w : ℕ) where
+  sounds : length x ≡ m → m ≤ 512 → n * w ≤ m → n ≤ 8 → (refusalOf (step l c .reply .answer) ≡ 0 → (e ≤ w) × (e ≤ 64)) → Followed (soundingOf r n e w) (x ++ drop m out) (heard n e w (step l c))
+  unfolding soundingOf heard channelsOf
+  sounds size lent there few small = subst (λ (z : ℕ). Followed (engine (eqb turned 0)) (x ++ drop m out) (ledger z)) same (go (eqb turned 0) refl)
+    where
+      turned : ℕ
+      turned = Engine.refusalOf (r .answer)
+
+      same : turned ≡ refusalOf (step l c .reply .answer)
+      same = same-refusal (r .answer) ∙ ap refusalOf (k .1 .answer)
+
+      engine : Bool → Applied
+      engine b = cond b (record { sequencer = r .sequencer; refusal = 0; channels = n; each = e; stride = w }) (silentOf r)
+
+      ledger : ℕ → Played
+      ledger z = record { ledger = step l c .ledger; refusal = z; samples = cond (eqb z 0) (channelsOf n e w (step l c .reply .out)) [] }
+
+      all : length (x ++ drop m out) ≡ 512
+      all = omega (arith, length-append x (drop m out), length-drop m out)
+
+      go : (b : Bool) → eqb turned 0 ≡ b → Followed (engine b) (x ++ drop m out) (ledger turned)
+      go true q =
+          let fits = small (sym same ∙ eqb-true turned 0 q) in
+          record {
+            after = kept s l c f (k .0);
+            refusal = sym (eqb-true turned 0 q);
+            samples = rw q (channels-front n e w x (drop m out) (fits .0) (omega arith) ∙ ap (channelsOf n e w) (k .1 .out));
+            long = all;
+            channels = few;
+            each = fits .1;
+            stride = fits .0;
+            within = omega arith;
+          }
+      go false q = soundless (r .sequencer) turned (ledger turned) (x ++ drop m out) (kept s l c f (k .0)) refl (rw q refl) all
+
+-- the engine gives back an output of the length that was lent to it
+
+length-ticked : (pool : List Float) (s : Sequencer) (out : List Float) → length (tickOuts pool s out) ≡ length out
+unfolding tickOuts renderedTickOut
+length-ticked pool s out = go (eqb (tickRefusal (length out) (s .outputs) (s .time) (s .«sample_duration»)) 0)
+  where
+    go : (b : Bool) → length (cond b (renderedTickOut pool s out) out) ≡ length out
+    go true = length-replicate (length out) (tickPass pool (s .time) (advanced s (tickEnd s)) .sum)
+    go false = refl
+
+length-blocked : (pool : List Float) (n : ℕ) (s : Sequencer) (out : List Float) → length (blockOuts pool n s out) ≡ length out
+unfolding blockOuts renderedBlockOut
+length-blocked pool n s out = go (eqb (processRefusal n (length out) (s .outputs) (s .time) (s .«sample_duration»)) 0)
+  where
+    sum : List Float
+    sum = blockPass pool (spanOf s n) n (advanced s (blockEnd s n)) .sum
+
+    go : (b : Bool) → length (cond b (renderedBlockOut pool n s out) out) ≡ length out
+    go true = length-overlay (take 64 sum) (omega (arith, length-take 64 sum)) (length out / 64) out (omega arith)
+    go false = refl
+
+module _ (s : Sequencer) (l : Ledger) (f : Follows s l) (out : List Float) (long : length out ≡ 512) where
+  -- no channel is left out of the 8
+  outputs : Engine.channelsOf s ≡ l .channels
+  outputs = omega (arith, f .related .plain .4, f .few)
+
+  follows-tick : Followed (ticking trailPool s out) (tickingOut trailPool s out) (play l Tick)
+  unfolding ticking tickingOut
+  follows-tick =
+      let n : ℕ = Engine.channelsOf s in
+      let m : ℕ = lentTick s out in
+      let lent : List Float = take m out in
+      let o = step l (tick trailPool lent) in
+      let size : m ≡ n = omega arith in
+      let part : length lent ≡ m = length-take-le m out (omega arith) in
+      let k = subst (λ (j : ℕ). Keeps (gives (ticks trailPool j s) (tickOuts trailPool s lent)) o) part (keep-tick s l trailPool lent (f .lawful) (f .related)) in
+      let plays : heard n 1 1 o ≡ play l Tick = ap (λ (c : ℕ). heard c 1 1 o) outputs ∙ sym (plays-tick l lent (part ∙ size ∙ outputs)) in
+      subst (λ (p : Played). Followed (ticking trailPool s out) (tickingOut trailPool s out) p) plays
+      (sounds s l f out long (tick trailPool lent) (ticks trailPool m s) (tickOuts trailPool s lent) k m n 1 1
+      (length-ticked trailPool s lent ∙ part) (omega arith) (omega arith) (omega arith) (λ h. (omega arith, omega arith)))
+
+  follows-block : (size : ℕ) → Followed (processing trailPool size s out) (processingOut trailPool size s out) (play l (Process size))
+  unfolding processing processingOut
+  follows-block e =
+      let n : ℕ = Engine.channelsOf s in
+      let m : ℕ = lentBlock s out in
+      let lent : List Float = take m out in
+      let o = step l (block e trailPool lent none) in
+      let size : m ≡ 64 * n = omega arith in
+      let part : length lent ≡ m = length-take-le m out (omega arith) in
+      let k = subst (λ (j : ℕ). Keeps (gives (blocks trailPool e j s) (blockOuts trailPool e s lent)) o) part (keep-block s l e trailPool lent (f .lawful) (f .related)) in
+      let plays : heard n e 64 o ≡ play l (Process e) = ap (λ (c : ℕ). heard c e 64 o) outputs ∙ sym (plays-block l e lent (part ∙ size ∙ ap (λ (c : ℕ). 64 * c) outputs)) in
+      subst (λ (p : Played). Followed (processing trailPool e s out) (processingOut trailPool e s out) p) plays
+      (sounds s l f out long (block e trailPool lent none) (blocks trailPool e m s) (blockOuts trailPool e s lent) k m n e 64
+      (length-blocked trailPool e s lent ∙ part) (omega arith) (omega arith) (omega arith) (λ h. let b = accepted-size l e trailPool lent h in (b, b)))
+
+-- ---- every record
+
+pub follows : (s : Sequencer) (l : Ledger) (call : Call) (out : List Float) → Readable call → length out ≡ 512 → Follows s l
+    → Followed (appliedTo trailPool s call out) (appliedOut trailPool s call out) (play l call)
+unfolding appliedTo appliedOut play
+follows s l (Create channels mode first) out h long f = follows-create channels mode first h out long l
+follows s l (Push p) out h long f = follows-push s l f out long absolute p
+follows s l (PushRelative p) out h long f = follows-push s l f out long relative p
+follows s l (PushDuration p) out h long f = follows-push s l f out long byDuration p
+follows s l (Edit p) out h long f = follows-edit s l f out long absoluteEnd p
+follows s l (EditRelative p) out h long f = follows-edit s l f out long relativeEnd p
+follows s l Tick out h long f = follows-tick s l f out long
+follows s l (Process n) out h long f = follows-block s l f out long n
+follows s l Reset out h long f = quiet s l f out long reset (accepts (resets s)) [] (keep-reset s l (f .lawful) (f .related))
+follows s l (SetSampleRate r) out h long f = quiet s l f out long (rate r) (rates s r) [] (keep-rate s l r (f .lawful) (f .related))

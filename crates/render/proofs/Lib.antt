@@ -1,0 +1,4 @@
+pub mod Steps
+pub mod Heard
+pub mod Follows
+pub mod Rolling

@@ -1,0 +1,27 @@
+-- Document 01's example tape on the plain ledger: the bytes that it renders, and where the room ends. Assumes nothing.
+use mathlib.Core.Path.{_≡_, refl}
+use mathlib.Core.List.{List, [], _∷_}
+use Prim.Native.Nat.{ℕ}
+use Rattle.tape.specs.Example.{example}
+use Rattle.tape.specs.Fields.{field, le}
+use Rattle.tape.specs.Tape.{recordOf, unknown, pushKind, sizeOf, callOf, pushOf, sourceOf}
+use Rattle.render.specs.Rendering.{rendered}
+
+-- the block's samples 3F800000 and 00000000
+abbrev blockBytes : List ℕ
+blockBytes = 0x00 ∷ 0x00 ∷ 0x80 ∷ 0x3F ∷ 0 ∷ 0 ∷ 0 ∷ 0 ∷ []
+
+-- and the tick's, 00000000
+pub whole-example : rendered example 12 ≡ 0x00 ∷ 0x00 ∷ 0x80 ∷ 0x3F ∷ 0 ∷ 0 ∷ 0 ∷ 0 ∷ 0 ∷ 0 ∷ 0 ∷ 0 ∷ []
+unfolding rendered recordOf unknown pushKind sizeOf callOf pushOf sourceOf field le
+whole-example = refl
+
+-- the tick does not fit
+pub cut-example : rendered example 11 ≡ blockBytes
+unfolding rendered recordOf unknown pushKind sizeOf callOf pushOf sourceOf field le
+cut-example = refl
+
+-- nor does the block: nothing is written, though the tick alone would fit
+pub empty-example : rendered example 7 ≡ []
+unfolding rendered recordOf unknown pushKind sizeOf callOf pushOf sourceOf field le
+empty-example = refl

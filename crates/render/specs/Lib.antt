@@ -1,0 +1,4 @@
+pub mod Bytes
+pub mod Playing
+pub mod Rendering
+pub mod Example

@@ -1,0 +1,70 @@
+-- A tape's records on the plain ledger: what each does to it, and which samples are heard. No engine stands here. Assumes nothing.
+use Prim.Native.Nat.{ℕ, zero, suc, _*_}
+use mathlib.Core.Bool.{cond}
+use mathlib.Core.List.{List, [], _∷_, _++_}
+use mathlib.Core.Option.{none}
+use lib.Dec.{eqb}
+use lib.Ieee.{Float}
+use lib.ListN.{take, drop, replicate}
+use Rattle.event.specs.declared.ReplayMode.the-variants.{All}
+use Rattle.floats.specs.Arithmetic.{zeroᶠ}
+use Rattle.ledger.specs.Calls.{PushKind, absolute, relative, byDuration, EditKind, absoluteEnd, relativeEnd, push, edit, tick, block, rate, reset, Answer, number, applied, past, stored, done, refused}
+use Rattle.ledger.specs.Calls as Calls
+use Rattle.ledger.specs.Ledger.{Ledger, fresh, create}
+use Rattle.ledger.specs.Steps.{Outcome, step}
+use Rattle.tape.specs.declared.reader.Call.{Call}
+use Rattle.tape.specs.declared.reader.Call.the-variants.{Create, Push, PushRelative, PushDuration, Edit, EditRelative, Tick, Process, Reset, SetSampleRate}
+use Rattle.tape.specs.declared.reader.PushRecord.{PushRecord}
+use Rattle.tape.specs.declared.reader.EditRecord.{EditRecord}
+use Rattle.tape.specs.Pool.{trailPool}
+
+-- the ledger after a record, the refusal or 0, and the samples of an accepted tick or block, channel after channel
+pub record Played : Type 0 where
+  pub ledger : Ledger
+  pub refusal : ℕ
+  pub samples : List Float
+
+abbrev pub refusalOf : Answer → ℕ
+refusalOf (refused n) = n
+refusalOf (number k) = 0
+refusalOf applied = 0
+refusalOf past = 0
+refusalOf stored = 0
+refusalOf done = 0
+
+-- a record without samples
+abbrev pub silent : Outcome → Played
+silent o = record { ledger = o .ledger; refusal = refusalOf (o .reply .answer); samples = [] }
+
+-- the first n samples of each of c channels; the channels begin w places apart
+unfoldable pub channelsOf : (c n w : ℕ) → List Float → List Float
+channelsOf zero n w out = []
+channelsOf (suc c) n w out = take n out ++ channelsOf c n w (drop w out)
+
+unfoldable pub heard : (c n w : ℕ) → Outcome → Played
+unfolding channelsOf
+heard c n w o =
+    let no = refusalOf (o .reply .answer) in
+    record { ledger = o .ledger; refusal = no; samples = cond (eqb no 0) (channelsOf c n w (o .reply .out)) [] }
+
+abbrev pub pushCall : PushKind → PushRecord → Calls.Call
+pushCall kind p = push kind (p .«start_time») (p .«end_time») (p .«fade_in») (p .«fade_out») (p .«fade_ease») (p .source)
+
+abbrev pub editCall : EditKind → EditRecord → Calls.Call
+editCall kind p = edit kind (p .id .0) (p .«end_time») (p .«fade_out»)
+
+-- A tick or block is lent the pool of `trail` and an output of the length that it wants.
+unfoldable pub play : Ledger → Call → Played
+unfolding create step heard
+play l (Create channels mode first) =
+    let o = create channels mode first in
+    record { ledger = o .ledger; refusal = refusalOf (o .answer); samples = [] }
+play l (Push p) = silent (step l (pushCall absolute p))
+play l (PushRelative p) = silent (step l (pushCall relative p))
+play l (PushDuration p) = silent (step l (pushCall byDuration p))
+play l (Edit p) = silent (step l (editCall absoluteEnd p))
+play l (EditRelative p) = silent (step l (editCall relativeEnd p))
+play l Tick = heard (l .channels) 1 1 (step l (tick trailPool (replicate (l .channels) zeroᶠ)))
+play l (Process n) = heard (l .channels) n 64 (step l (block n trailPool (replicate (64 * l .channels) zeroᶠ) none))
+play l Reset = silent (step l reset)
+play l (SetSampleRate r) = silent (step l (rate r))

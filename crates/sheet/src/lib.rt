@@ -1,0 +1,1 @@
+// Document 01's proof sheet: specs/Sheet.antt.

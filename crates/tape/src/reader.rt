@@ -1,0 +1,225 @@
+// Reads one record at a cursor.
+ghost use mathlib.Core.Path.{_≡_};
+ghost use Prim.Native.Nat.{_+_, _<_, _^_};
+ghost use lib.ListN.{length};
+ghost use Rattle.tape.specs.Tape.{readAt, recordOf, unknown, pushKind, sizeOf, callOf, pushOf, editOf, modeOf, curveOf, sourceOf};
+use crate::fields;
+use event::EventId;
+use event::Fade;
+use event::ReplayMode;
+use event::Source;
+
+// A place on a tape, and whether the record there is the tape's first.
+pub struct Cursor {
+    pub at: usize,
+    pub first: bool,
+}
+
+// What a push says. By duration, `end_time` is the duration.
+pub struct PushRecord {
+    pub start_time: f64,
+    pub end_time: f64,
+    pub fade_in: f64,
+    pub fade_out: f64,
+    pub fade_ease: Fade,
+    pub source: Source,
+}
+
+pub struct EditRecord {
+    pub id: EventId,
+    pub end_time: f64,
+    pub fade_out: f64,
+}
+
+pub enum Call {
+    Create {
+        channels: u8,
+        mode: ReplayMode,
+        first: u64,
+    },
+    Push(PushRecord),
+    PushRelative(PushRecord),
+    PushDuration(PushRecord),
+    Edit(EditRecord),
+    EditRelative(EditRecord),
+    Tick,
+    Process(u8),
+    Reset,
+    SetSampleRate(f64),
+}
+
+// A call with its kind and the next cursor; a refusal, 14 or 15, with the kind that stands there; or the tape's end.
+pub enum Read {
+    Record { kind: u8, call: Call, next: Cursor },
+    Refused { kind: u8, number: u8 },
+    End,
+}
+
+// Whether a record of this kind is a push, with a curve and a source byte.
+fn is_push(kind: u8) -> bool
+    ensures { λ r. ⌜ r ≡ pushKind kind ⌝ }
+{
+    if 0 < kind { kind < 4 } else { false }
+}
+
+// 14.
+fn is_unknown(first: bool, bs: &[u8]) -> bool
+    ensures { λ r. ⌜ r ≡ unknown first (now (bs .entry)) ⌝ }
+{
+    let kind = fields::byte(bs, 0);
+    if first {
+        if kind == 0 {
+            return 1 < fields::byte(bs, 2);
+        }
+        return true;
+    }
+    if kind == 0 {
+        return true;
+    }
+    if 9 < kind {
+        return true;
+    }
+    if is_push(kind) {
+        if 1 < fields::byte(bs, 33) {
+            return true;
+        }
+        return 2 < fields::byte(bs, 34);
+    }
+    false
+}
+
+const SIZES: [usize; 10] = [11, 43, 43, 43, 25, 25, 1, 2, 1, 9];
+
+// A record's length with its kind byte.
+fn size_of(kind: u8) -> usize
+    ensures { λ r. ⌜ r ≡ sizeOf kind ⌝ }
+{
+    let k = kind as usize;
+    if k < 10 { SIZES[k] } else { 0 }
+}
+
+fn mode_of(b: u8) -> ReplayMode
+    ensures { λ r. ⌜ r ≡ modeOf b ⌝ }
+{
+    match b {
+        0 => ReplayMode::All,
+        _ => ReplayMode::None,
+    }
+}
+
+fn curve_of(b: u8) -> Fade
+    ensures { λ r. ⌜ r ≡ curveOf b ⌝ }
+{
+    match b {
+        0 => Fade::Power,
+        _ => Fade::Smooth,
+    }
+}
+
+fn source_of(bs: &[u8]) -> Source
+    ensures { λ r. ⌜ r ≡ sourceOf (now (bs .entry)) ⌝ }
+{
+    let b = fields::byte(bs, 34);
+    match b {
+        0 => Source::Held(fields::f32_at(bs, 35)),
+        1 => Source::Ramp(fields::f32_at(bs, 35), fields::f32_at(bs, 39)),
+        _ => Source::Clip(fields::word32(bs, 35), fields::word32(bs, 39)),
+    }
+}
+
+fn push_of(bs: &[u8]) -> PushRecord
+    ensures { λ r. ⌜ r ≡ pushOf (now (bs .entry)) ⌝ }
+{
+    let start_time = fields::f64_at(bs, 1);
+    let end_time = fields::f64_at(bs, 9);
+    let fade_in = fields::f64_at(bs, 17);
+    let fade_out = fields::f64_at(bs, 25);
+    let fade_ease = curve_of(fields::byte(bs, 33));
+    let source = source_of(bs);
+    PushRecord {
+        start_time,
+        end_time,
+        fade_in,
+        fade_out,
+        fade_ease,
+        source,
+    }
+}
+
+fn edit_of(bs: &[u8]) -> EditRecord
+    ensures { λ r. ⌜ r ≡ editOf (now (bs .entry)) ⌝ }
+{
+    let id = EventId(fields::word64(bs, 1));
+    let end_time = fields::f64_at(bs, 9);
+    let fade_out = fields::f64_at(bs, 17);
+    EditRecord {
+        id,
+        end_time,
+        fade_out,
+    }
+}
+
+// The call of a record that is there whole.
+fn call_of(bs: &[u8]) -> Call
+    ensures { λ r. ⌜ r ≡ callOf (now (bs .entry)) ⌝ }
+{
+    let kind = fields::byte(bs, 0);
+    match kind {
+        0 => {
+            let m = mode_of(fields::byte(bs, 2));
+            Call::Create {
+                channels: fields::byte(bs, 1),
+                mode: m,
+                first: fields::word64(bs, 3),
+            }
+        }
+        1 => Call::Push(push_of(bs)),
+        2 => Call::PushRelative(push_of(bs)),
+        3 => Call::PushDuration(push_of(bs)),
+        4 => Call::Edit(edit_of(bs)),
+        5 => Call::EditRelative(edit_of(bs)),
+        6 => Call::Tick,
+        7 => Call::Process(fields::byte(bs, 1)),
+        8 => Call::Reset,
+        _ => Call::SetSampleRate(fields::f64_at(bs, 1)),
+    }
+}
+
+// The record that begins the bytes.
+fn record_of(cursor: Cursor, bs: &[u8]) -> Read
+    requires { ⌜ cursor .at + length (now bs) < 2 ^ 64 ⌝ }
+    ensures { λ r. ⌜ r ≡ recordOf cursor (now (bs .entry)) ⌝ }
+{
+    let at = cursor.at;
+    let first = cursor.first;
+    let kind = fields::byte(bs, 0);
+    if is_unknown(first, bs) {
+        return Read::Refused { kind, number: 14 };
+    }
+    let n = size_of(kind);
+    if bs.len() < n {
+        return Read::Refused { kind, number: 15 };
+    }
+    let c = call_of(bs);
+    Read::Record {
+        kind,
+        call: c,
+        next: Cursor {
+            at: at + n,
+            first: false,
+        },
+    }
+}
+
+impl Cursor {
+    // A cursor at the tape's end or beyond it reads the end.
+    pub fn read(self, tape: &[u8]) -> Read
+        ensures { λ r. ⌜ r ≡ readAt (now (tape .entry)) self ⌝ }
+    {
+        let at = self.at;
+        if tape.len() <= at {
+            return Read::End;
+        }
+        record_of(self, &tape[at..])
+    }
+}

@@ -1,0 +1,45 @@
+/* Renders the tape in a file and prints each sample's bits on a line of its own.
+ * Usage: render TAPE [BYTES], where BYTES is the room lent to the samples (65,536 if not given). */
+#include "../include/render.h"
+#include <stdio.h>
+#include <stdlib.h>
+
+static uint8_t *read_file(const char *path, size_t *length) {
+    FILE *file = fopen(path, "rb");
+    if (!file || fseek(file, 0, SEEK_END)) {
+        return NULL;
+    }
+    long size = ftell(file);
+    rewind(file);
+    /* As long as the tape and no longer, so that a memory checker sees a read beyond it. */
+    uint8_t *bytes = size < 0 ? NULL : malloc(size ? (size_t)size : 1);
+    if (bytes && fread(bytes, 1, (size_t)size, file) != (size_t)size) {
+        free(bytes);
+        bytes = NULL;
+    }
+    fclose(file);
+    *length = (size_t)size;
+    return bytes;
+}
+
+int main(int argc, char **argv) {
+    if (argc < 2) {
+        fprintf(stderr, "usage: %s TAPE [BYTES]\n", argv[0]);
+        return 2;
+    }
+    size_t length = 0;
+    uint8_t *tape = read_file(argv[1], &length);
+    size_t room = argc > 2 ? strtoull(argv[2], NULL, 10) : 65536;
+    uint8_t *out = malloc(room ? room : 1);
+    if (!tape || !out) {
+        fprintf(stderr, "%s: not read\n", argv[1]);
+        return 1;
+    }
+    size_t count = render(tape, length, out, room);
+    for (size_t at = 0; at + 4 <= count; at += 4) {
+        printf("%02X%02X%02X%02X\n", out[at + 3], out[at + 2], out[at + 1], out[at]);
+    }
+    free(out);
+    free(tape);
+    return 0;
+}
