@@ -40,15 +40,15 @@ Agrees n none = n ≡ 0
 Agrees n (some k) = (n ≡ k) × (0 < k)
 
 -- the checks as the engine tests them
-abbrev inOrder : List Check → ℕ
+abbrev pub inOrder : List Check → ℕ
 inOrder [] = 0
 inOrder (refuses k b ∷ l) = cond b k (inOrder l)
 
-abbrev Numbered : List Check → Type 0
+abbrev pub Numbered : List Check → Type 0
 Numbered [] = Unit {0}
 Numbered (refuses k b ∷ l) = T (ltb 0 k) × Numbered l
 
-agrees : (l : List Check) → Numbered l → Agrees (inOrder l) (firstOf l)
+pub agrees : (l : List Check) → Numbered l → Agrees (inOrder l) (firstOf l)
 unfolding firstOf
 agrees [] h = refl
 agrees (refuses k true ∷ l) h = (refl, omega (arith, ltb→lt 0 k (h .0)))

@@ -35,6 +35,9 @@ unfoldable pub noRoom : ActiveMap → EditMap → (threshold : Float) → EventI
 unfolding roomless
 noRoom index edits θ k end = roomless (foundId index k) (end <ᶠ θ) (foundEdit edits k) (edits .len)
 
+unfoldable pub editLimits : (end fade-out : Float) → ℕ
+editLimits end fade-out = cond (not (withinEnd end && within fade-out)) 8 0
+
 unfoldable pub editRefusal : ActiveMap → EditMap → (threshold : Float) → EventId → (end until fade-out : Float) → ℕ
 unfolding noRoom
 editRefusal index edits θ k end until fade-out = cond (not (withinEnd end && within fade-out)) 8 (cond (noRoom index edits θ k until) 9 0)

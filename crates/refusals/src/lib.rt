@@ -3,7 +3,7 @@ ghost use mathlib.Core.Path.{_≡_};
 ghost use Prim.Native.Nat.{min, _+_};
 ghost use lib.Ieee.Scale.{finite as isFinite};
 ghost use Rattle.ledger.specs.Refusals as Limits;
-ghost use Rattle.refusals.specs.Refusals.{pushRefusal, noRoom, editRefusal, tickRefusal, processRefusal, rateRefusal};
+ghost use Rattle.refusals.specs.Refusals.{pushRefusal, noRoom, editLimits, editRefusal, tickRefusal, processRefusal, rateRefusal};
 use event::EventId;
 use event::Source;
 use lists::ActiveMap;
@@ -138,6 +138,19 @@ fn no_room(index: ActiveMap, edits: EditMap, threshold: f64, id: EventId, end: f
     }
 }
 
+// Of an edit's end, as given, and fade: 8.
+pub fn edit_limits(end: f64, fade_out: f64) -> u64
+    ensures { λ r. ⌜ r ≡ editLimits end «fade_out» ⌝ }
+{
+    if !within_end(end) {
+        return 8;
+    }
+    if !within(fade_out) {
+        return 8;
+    }
+    0
+}
+
 // Of an edit: 8 and 9. `end` is the end as given, `until` the same with the clock added where it is relative.
 pub fn edit_refusal(
     index: ActiveMap,
@@ -150,11 +163,9 @@ pub fn edit_refusal(
 ) -> u64
     ensures { λ r. ⌜ r ≡ editRefusal index edits threshold id end until «fade_out» ⌝ }
 {
-    if !within_end(end) {
-        return 8;
-    }
-    if !within(fade_out) {
-        return 8;
+    let no = edit_limits(end, fade_out);
+    if no != 0 {
+        return no;
     }
     if no_room(index, edits, threshold, id, until) {
         return 9;

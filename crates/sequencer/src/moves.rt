@@ -173,7 +173,7 @@ impl Sequencer {
     }
 
     // In mode None the finished are let go.
-    fn release_past(mut self) -> Sequencer
+    pub fn release_past(mut self) -> Sequencer
         ensures { λ r. ⌜ r ≡ releasedPast self (self .mode) ⌝ }
     {
         let mode = self.mode;

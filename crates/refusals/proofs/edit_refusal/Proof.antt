@@ -1,36 +1,54 @@
 -- `refusals::edit_refusal` meets its contract. Assumes nothing.
-use borrow.Author.Tests.{not-true, not-false}
-use mathlib.Core.Bool.{true, _&&_}
-use mathlib.Core.Path.{_≡_, sym, _∙_}
+use mathlib.Core.Bool.{Bool, true, false, not, _&&_, cond}
+use mathlib.Core.Path.{_≡_, refl, sym, _∙_}
+use lib.Ieee.{Float}
+use Prim.Native.Nat.{ℕ}
+use native.Mathlib.Omega.{arith}
+use Rattle.event.specs.declared.EventId.{EventId}
 use Rattle.ledger.specs.Refusals.{within, withinEnd}
-use Rattle.refusals.specs.Refusals.{editRefusal}
+use Rattle.lists.specs.declared.ActiveMap.{ActiveMap}
+use Rattle.lists.specs.declared.EditMap.{EditMap}
+use Rattle.refusals.specs.Refusals.{editLimits, editRefusal, noRoom}
 use borrow.Author.Needs.{needs}
 use Rattle.refusals.proofs.edit_refusal.Statement.{statement}
 use Rattle.refusals.proofs.edit_refusal.Tie as tie
 
-end-passes : (c : tie.Else1) → withinEnd (c .before .before .args .end) ≡ true
-end-passes c = sym (c .before .within-end .ensures) ∙ not-false _ (c .if1 .left)
+fails : (b : Bool) (k r : ℕ) → k ≡ cond b 8 0 → (k ≡ 0 → ⊥) → k ≡ cond b 8 r
+fails true k r h some = h
+fails false k r h some = absurd (some h)
 
-times-pass : (c : tie.Else2) → (let a = c .before .before .before .before .args in (withinEnd (a .end) && within (a .fade-out)) ≡ true)
-times-pass c = rw (end-passes (c .before .before)) (sym (c .before .within .ensures) ∙ not-false _ (c .if2 .left))
+passes : (b : Bool) (k r : ℕ) → k ≡ cond b 8 0 → k ≡ 0 → r ≡ cond b 8 r
+passes true k r h z = absurd (omega arith)
+passes false k r h z = refl
+
+module _ (index : ActiveMap) (edits : EditMap) (θ : Float) (i : EventId) (end until fade-out : Float) (k : ℕ) (h : k ≡ editLimits end fade-out) where
+  beyond : (k ≡ 0 → ⊥) → k ≡ editRefusal index edits θ i end until fade-out
+  unfolding editLimits editRefusal
+  beyond some = fails (not (withinEnd end && within fade-out)) k _ h some
+
+  module _ (z : k ≡ 0) where
+    full : noRoom index edits θ i until ≡ true → 9 ≡ editRefusal index edits θ i end until fade-out
+    unfolding editLimits editRefusal
+    full e = rw e (passes (not (withinEnd end && within fade-out)) k 9 h z)
+
+    fine : noRoom index edits θ i until ≡ false → 0 ≡ editRefusal index edits θ i end until fade-out
+    unfolding editLimits editRefusal
+    fine e = rw e (passes (not (withinEnd end && within fade-out)) k 0 h z)
 
 returns : tie.Need-returns
-unfolding editRefusal
-returns c = rw (sym (c .before .within-end .ensures) ∙ not-true _ (c .if1 .taken))
+returns c = beyond _ _ _ _ _ _ _ _ (c .before .edit-limits .ensures) (c .if1 .taken)
 
 returns-2 : tie.Need-returns-2
-unfolding editRefusal
-returns-2 c = rw (end-passes (c .before .before), sym (c .before .within .ensures) ∙ not-true _ (c .if2 .taken))
+returns-2 c =
+    let l = c .before .before in
+    full _ _ _ _ _ _ _ _ (l .before .edit-limits .ensures) (l .if1 .left) (sym (c .before .no-room .ensures) ∙ c .if2 .taken)
 
 returns-3 : tie.Need-returns-3
-unfolding editRefusal
-returns-3 c = rw (times-pass (c .before .before), sym (c .before .no-room .ensures) ∙ c .if3 .taken)
-
-returns-4 : tie.Need-returns-4
-unfolding editRefusal
-returns-4 c = rw (times-pass (c .before .before), sym (c .before .no-room .ensures) ∙ c .if3 .left)
+returns-3 c =
+    let l = c .before .before in
+    fine _ _ _ _ _ _ _ _ (l .before .edit-limits .ensures) (l .if1 .left) (sym (c .before .no-room .ensures) ∙ c .if2 .left)
 
 pub edit-refusal-spec : {M : Type 1} → statement M
 edit-refusal-spec =
     tie.close
-    (tie.spec (λ c κs. search needs) returns (λ c κs. search needs) returns-2 (λ c κs. search needs) returns-3 returns-4)
+    (tie.spec (λ c κs. search needs) returns (λ c κs. search needs) returns-2 returns-3)

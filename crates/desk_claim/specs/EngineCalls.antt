@@ -1,0 +1,55 @@
+-- The engine's desk as the desk's claim takes one: its creation, its calls with what each gives back, and its view. Assumes nothing.
+use Prim.Native.Nat.{ℕ}
+use mathlib.Core.List.{List, [], map}
+use lib.ListN.{length}
+use lib.Ieee.{Float}
+use Rattle.event.specs.declared.ReplayMode.{ReplayMode}
+use Rattle.ledger.specs.Calls as Calls
+use Rattle.sequencer.specs.Answers as Engine
+use Rattle.sequencer.specs.Creation.{created}
+use Rattle.claim.specs.View.{viewOf}
+use Rattle.desk.specs.Desk as Plain
+use Rattle.desk.specs.Desk.{push, edit, reset, tick, block, rate, Call, front, back, number, queued, done, refused, Reply}
+use Rattle.desk.specs.Claim.{DeskView, DeskEngine}
+use Rattle.realseq.specs.declared.SequencerBackend.{SequencerBackend}
+use Rattle.realseq.specs.declared.Outcome.{Outcome}
+use Rattle.realseq.specs.declared.Answer.{Answer}
+use Rattle.realseq.specs.declared.Answer.the-variants.{Number, Queued, Done, Refused}
+use Rattle.realseq.specs.Queues.{opened}
+use Rattle.realseq.specs.Handling as Handling
+use Rattle.realseq.specs.Fronts.{pushes, edits, resets}
+use Rattle.realseq.specs.Backs.{accepts, ticks, tickOuts, blocks, blockOuts, rates}
+use Rattle.desk_claim.specs.Ring.{listed}
+use Rattle.desk_claim.specs.ReturnQueue.{inQueue}
+use Rattle.desk_claim.specs.Related.{shown}
+
+abbrev pub deskNew : (channels : ℕ) → ReplayMode → (first : ℕ) → SequencerBackend × Calls.Answer
+deskNew channels mode first =
+    let o = created channels mode first in
+    (opened (o .sequencer), Engine.answerOf (o .answer))
+
+abbrev pub answerOf : Answer → Plain.Answer
+answerOf (Number k) = number (k .0)
+answerOf Queued = queued
+answerOf Done = done
+answerOf (Refused k) = refused k
+
+-- the state after a call; its answer; and the output lent back, where one was lent
+abbrev pub gives : Outcome → (out : List Float) → SequencerBackend × Reply
+gives o out = (o .backend, record { answer = answerOf (o .answer); out = out })
+
+abbrev pub deskCall : SequencerBackend → Call → SequencerBackend × Reply
+deskCall d (front (push kind start end fade-in fade-out curve source)) = gives (pushes kind d start end curve fade-in fade-out source) []
+deskCall d (front (edit kind k end fade-out)) = gives (edits kind d (record { 0 = k }) end fade-out) []
+deskCall d (front reset) = gives (resets d) []
+deskCall d (back (tick pool out)) = gives (ticks pool (length out) d) (tickOuts pool d out)
+deskCall d (back (block n pool out)) = gives (blocks pool n (length out) d) (blockOuts pool n d out)
+deskCall d (back (rate r)) = gives (rates d r) []
+deskCall d (back reset) = gives (accepts (Handling.reset d)) []
+
+-- the arrays up to their counts
+abbrev pub deskView : SequencerBackend → DeskView
+deskView d = record { back = viewOf (d .sequencer); queued = map shown (listed (d .messages)); returned = inQueue (d .returned) }
+
+abbrev pub deskEngine : DeskEngine
+deskEngine = record { State = SequencerBackend; new = deskNew; call = deskCall; view = deskView }

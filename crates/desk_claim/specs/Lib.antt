@@ -1,0 +1,11 @@
+pub mod Ring
+pub mod ReturnQueue
+pub mod Related
+pub mod Messages
+pub mod LettingGo
+pub mod Draining
+pub mod EngineCalls
+pub mod Refusals
+pub mod Fronts
+pub mod Backs
+pub mod Theorem

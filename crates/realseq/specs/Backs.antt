@@ -1,0 +1,54 @@
+-- The calls of the back, on every desk: refused before the messages are handled, or carried out after it.
+use mathlib.Core.Bool.{cond}
+use mathlib.Core.List.{List}
+use Prim.Native.Nat.{ℕ}
+use lib.Dec.{eqb}
+use lib.Ieee.{Float}
+use lib.ListN.{length}
+use Rattle.refusals.specs.Refusals.{tickRefusal, processRefusal, rateRefusal}
+use Rattle.sequencer.specs.declared.Sequencer.{Sequencer}
+use Rattle.sequencer.specs.Rendering.{renderedTick, renderedTickOut, renderedBlock, renderedBlockOut}
+use Rattle.sequencer.specs.Resets.{reRated}
+use Rattle.realseq.specs.declared.SequencerBackend.{SequencerBackend}
+use Rattle.realseq.specs.declared.Outcome.{Outcome}
+use Rattle.realseq.specs.declared.Answer.the-variants.{Done}
+use Rattle.realseq.specs.Handling.{pastSentBy, pastSent, drained}
+use Rattle.realseq.specs.Fronts.{refuses}
+
+abbrev pub accepts : SequencerBackend → Outcome
+accepts d = record { backend = d; answer = Done }
+
+abbrev pub withEngine : SequencerBackend → Sequencer → SequencerBackend
+withEngine d s = record { sequencer = s; messages = d .messages; returned = d .returned }
+
+abbrev pub tickNo : SequencerBackend → (len : ℕ) → ℕ
+tickNo d len = tickRefusal len (d .sequencer .outputs) (d .sequencer .time) (d .sequencer .«sample_duration»)
+
+unfoldable pub ticks : (pool : List Float) → (len : ℕ) → SequencerBackend → Outcome
+unfolding tickRefusal drained renderedTick pastSentBy
+ticks pool len d =
+    let b = drained d in
+    cond (eqb (tickNo d len) 0) (accepts (pastSent (withEngine b (renderedTick pool (b .sequencer))))) (refuses d (tickNo d len))
+
+unfoldable pub tickOuts : (pool : List Float) → SequencerBackend → (out : List Float) → List Float
+unfolding tickRefusal drained renderedTickOut
+tickOuts pool d out = cond (eqb (tickNo d (length out)) 0) (renderedTickOut pool (drained d .sequencer) out) out
+
+abbrev pub blockNo : SequencerBackend → (n len : ℕ) → ℕ
+blockNo d n len = processRefusal n len (d .sequencer .outputs) (d .sequencer .time) (d .sequencer .«sample_duration»)
+
+unfoldable pub blocks : (pool : List Float) → (n len : ℕ) → SequencerBackend → Outcome
+unfolding processRefusal drained renderedBlock pastSentBy
+blocks pool n len d =
+    let b = drained d in
+    cond (eqb (blockNo d n len) 0) (accepts (pastSent (withEngine b (renderedBlock pool n (b .sequencer))))) (refuses d (blockNo d n len))
+
+unfoldable pub blockOuts : (pool : List Float) → (n : ℕ) → SequencerBackend → (out : List Float) → List Float
+unfolding processRefusal drained renderedBlockOut
+blockOuts pool n d out = cond (eqb (blockNo d n (length out)) 0) (renderedBlockOut pool n (drained d .sequencer) out) out
+
+unfoldable pub rates : SequencerBackend → (rate : Float) → Outcome
+unfolding rateRefusal drained reRated
+rates d r =
+    let b = drained d in
+    cond (eqb (rateRefusal r) 0) (accepts (withEngine b (reRated (b .sequencer) r))) (refuses d (rateRefusal r))
