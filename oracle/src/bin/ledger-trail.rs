@@ -54,7 +54,7 @@ fn run(desk: bool, mutation: Option<Mutation>) -> io::Result<()> {
     if desk {
         play::<DeskLedger>(
             Format::Desk,
-            Detail::Queues,
+            Detail::Digest,
             mutation,
             &tape,
             &pool,
