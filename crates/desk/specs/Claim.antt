@@ -4,7 +4,6 @@ use mathlib.Core.Path.{_≡_}
 use mathlib.Core.Bool.{Bool, true, false, cond}
 use mathlib.Core.List.{List, [], _∷_, _++_, List·Memᴰ}
 use lib.ListN.{length}
-use lib.Ieee.{Float}
 use Rattle.event.specs.declared.Edit.{Edit}
 use Rattle.event.specs.declared.Event.{Event}
 use Rattle.event.specs.declared.ReplayMode.{ReplayMode}
@@ -12,13 +11,13 @@ use Rattle.floats.specs.Arithmetic.{_<ᶠ_}
 use Rattle.ledger.specs.Calls as Calls
 use Rattle.ledger.specs.Calls.{PushKind, absolute, relative, byDuration, EditKind, absoluteEnd, relativeEnd}
 use Rattle.ledger.specs.Lists.{numbers}
-use Rattle.ledger.specs.Ledger.{Ledger, create}
+use Rattle.ledger.specs.Ledger.{create}
 use Rattle.ledger.specs.Refusals.{statedEnd}
 use Rattle.ledger.specs.Steps.{newEvent}
 use Rattle.ledger.specs.Numbers.{among, times}
 use Rattle.ledger.specs.Holdable.{Holdable}
 use Rattle.ledger.specs.Claim.{View, SameState, IndexGivesPlaces}
-use Rattle.desk.specs.Desk.{Message, push, edit, reset, BackCall, Call, front, back, messageCall, backCall, Answer, number, queued, done, refused, Reply, Desk, opened, run}
+use Rattle.desk.specs.Desk.{Message, push, edit, reset, Call, front, back, messageCall, backCall, Answer, number, queued, done, refused, Reply, Desk, opened, run}
 
 -- ---- a desk with an engine
 

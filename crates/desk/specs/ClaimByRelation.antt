@@ -20,7 +20,8 @@ use Rattle.ledger.specs.Lawful.{Lawful}
 use Rattle.ledger.specs.Claim.{SameState, IndexGivesPlaces}
 use Rattle.desk.specs.Desk.{Message, push, edit, reset, Call, Reply, Desk, pushesIn, nextNumber, opened, step, run}
 use Rattle.desk.specs.Claim.{DeskView, DeskEngine, calls, engineAfter, sentFrom, sentNumbers, accepted, HoldableCall, AllHoldable, DeskClaim}
-use Rattle.desk.specs.Lawful.{DeskLawful, opened-lawful, step-lawful}
+use Rattle.desk.specs.Lawful.{DeskLawful}
+use Rattle.desk.specs.LawfulCalls.{opened-lawful, step-lawful}
 use Rattle.desk.specs.Partition.{queuedNumbers, DeskPartition, length-upFrom, times-sum, desk-partition}
 
 -- ---- the numbers of queued pushes

@@ -1,6 +1,6 @@
 -- Document 01, "The desk": the plain ledger with two queues, as lists. The front queues; the back drains the queue before each of its calls. It runs.
 use Prim.Native.Nat.{ℕ, suc, _+_}
-use mathlib.Core.Bool.{Bool, true, false, not, _&&_}
+use mathlib.Core.Bool.{not, _&&_}
 use mathlib.Core.List.{List, [], _∷_, _++_, reverse}
 use mathlib.Core.Option.{Option, none, some}
 use lib.Dec.{leb}
@@ -14,9 +14,8 @@ use Rattle.floats.specs.Arithmetic.{zeroᶠ, -∞}
 use Rattle.ledger.specs.Calls as Calls
 use Rattle.ledger.specs.Calls.{PushKind, EditKind}
 use Rattle.ledger.specs.Lists.{numbers}
-use Rattle.ledger.specs.Ledger.{Ledger, held, create}
+use Rattle.ledger.specs.Ledger.{Ledger, held}
 use Rattle.ledger.specs.Refusals.{Check, refuses, firstOf, within, withinEnd, statedEnd, pushChecksAt, refusal}
-use Rattle.ledger.specs.Steps as Steps
 use Rattle.ledger.specs.Steps.{withLists, accept, restart}
 
 -- ---- calls and answers

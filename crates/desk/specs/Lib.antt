@@ -3,6 +3,7 @@ pub mod Claim
 pub mod FreshEnd
 pub mod LetGo
 pub mod Lawful
+pub mod LawfulCalls
 pub mod Partition
 pub mod ClaimByRelation
 pub mod DeskMeets

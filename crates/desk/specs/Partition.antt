@@ -27,7 +27,8 @@ use Rattle.ledger.specs.Partition.{is, times-is, count-up, once-or-never}
 use Rattle.desk.specs.Desk.{Message, push, edit, reset, BackCall, tick, block, rate, Call, front, back, Desk, pushesIn, nextNumber, withBack, opened, sendFinished, restarted, drain, drained, refusalOf, Outcome, sends, acts, carriedOut, decide, step, run}
 use Rattle.desk.specs.Claim.{acceptedOf, accepted}
 use Rattle.desk.specs.LetGo.{finished-sum, restarted-sum}
-use Rattle.desk.specs.Lawful.{deskOf, handled, handled-next, pushes-last, drained-empty}
+use Rattle.desk.specs.Lawful.{deskOf, handled, handled-next, drained-empty}
+use Rattle.desk.specs.LawfulCalls.{pushes-last}
 
 -- the numbers of queued pushes
 abbrev pub queuedNumbers : Desk → List ℕ

@@ -18,7 +18,8 @@ use Rattle.sequencer.specs.Parts.{withNext}
 use Rattle.desk.specs.Desk as Plain
 use Rattle.desk.specs.Desk.{push, edit, reset, front, Reply, number, Desk, pushesIn, nextNumber, frontChecks, refusalOf, sends, carriedOut, step}
 use Rattle.desk.specs.Claim.{isRelative}
-use Rattle.desk.specs.Lawful.{DeskLawful, pushes-last, sends-lawful}
+use Rattle.desk.specs.Lawful.{DeskLawful}
+use Rattle.desk.specs.LawfulCalls.{pushes-last, sends-lawful}
 use Rattle.realseq.specs.declared.SequencerBackend.{SequencerBackend}
 use Rattle.realseq.specs.declared.Outcome.{Outcome}
 use Rattle.realseq.specs.declared.Answer.the-variants.{Number, Queued}

@@ -2,28 +2,23 @@
 use mathlib.Core.Path.{_≡_, refl, sym, ap, _∙_}
 use mathlib.Core.Logic.{_⊎_, inl, inr, ⊎-elim}
 use mathlib.Core.Bool.{Bool, true, false, cond}
-use mathlib.Core.List.{List, [], _∷_, _++_, append-assoc, append-nil}
-use Prim.Native.Nat.{ℕ, zero, suc, _+_, _-_, _<_, _≤_, min}
+use mathlib.Core.List.{List}
+use Prim.Native.Nat.{ℕ, zero, suc, _-_, _<_, _≤_}
 use native.Mathlib.Omega.{arith}
-use lib.ListN.{getD, take, length, length-take}
-use lib.Seq.{take-all}
+use lib.ListN.{getD}
 use Rattle.event.specs.declared.Event.{Event}
-use Rattle.event.specs.declared.EventId.{EventId}
-use Rattle.event.specs.declared.ReplayMode.{ReplayMode}
-use Rattle.event.specs.declared.ReplayMode.the-variants.{All, None}
 use Rattle.event.specs.Events.{blank}
 use Rattle.ready.specs.declared.Ready.{Ready}
 use Rattle.ready.specs.Waiting as Waiting
 use Rattle.sequencer.specs.declared.Sequencer.{Sequencer}
-use Rattle.sequencer.specs.Moves.{heapOf}
 use Rattle.realseq.specs.declared.SequencerBackend.{SequencerBackend}
 use Rattle.realseq.specs.declared.queues.Message.{Message}
 use Rattle.realseq.specs.declared.queues.Message.the-variants.{Reset, Push, PushRelative, Edit, EditRelative}
 use Rattle.realseq.specs.declared.queues.Messages.{Messages}
 use Rattle.realseq.specs.declared.queues.Returned.{Returned}
 use Rattle.realseq.specs.Queues.{isReset, peeked, popped, sent}
-use Rattle.realseq.specs.Handling.{acted, sentDown, sentReady, returnedBy, restarted, stepped, handled, drained, reset, taken, handledUntil, untilReset}
-use Rattle.realseq.specs.QueueLaws.{popped-count, popped-slots, inQueue, Good, sent-good, sent-listed}
+use Rattle.realseq.specs.Handling.{acted, sentDown, sentReady, restarted, stepped, handled, drained, reset, taken, handledUntil, untilReset}
+use Rattle.realseq.specs.QueueLaws.{popped-count, popped-slots}
 
 -- ---- none is queued
 
@@ -196,74 +191,3 @@ ready-on i w v r q x h is g p =
 pub ready-none : (i : ℕ) (w : Ready) (r : Returned) → i ≡ 0 → sentReady i w r ≡ r
 unfolding sentReady
 ready-none i w r h = ap (λ (k : ℕ). sentReady k w r) h
-
--- ---- numbers sent back: after the queued ones, as far as 64
-
--- the numbers at places n - 1 down to 0
-unfoldable pub idsDown : (n : ℕ) → List Event → List EventId
-idsDown zero xs = []
-idsDown (suc n) xs = getD xs n blank .id ∷ idsDown n xs
-
--- the numbers of the heap's first n
-unfoldable pub idsReady : (n : ℕ) → Ready → List EventId
-idsReady zero h = []
-idsReady (suc n) h = Waiting.peeked h .id ∷ idsReady n (Waiting.popped h)
-
-take-again : (n : ℕ) (a b : List EventId) → take n (take n a ++ b) ≡ take n (a ++ b)
-take-again zero a b = refl
-take-again (suc n) [] b = refl
-take-again (suc n) (x ∷ a) b = ap (λ (l : List EventId). x ∷ l) (take-again n a b)
-
--- the queue r holds l, cut to 64
-pub record Holds (r : Returned) (l : List EventId) : Type 0 where
-  pub good : Good r
-  pub lists : inQueue r ≡ take 64 l
-
-pub holds-itself : (r : Returned) → Good r → Holds r (inQueue r)
-holds-itself r g = record { good = g; lists = sym (take-all 64 (inQueue r) (omega (arith, length-take (r .count) (r .ids), g .few))) }
-
-pub sent-holds : (r : Returned) (l : List EventId) (k : EventId) → Holds r l → Holds (sent r k) (l ++ (k ∷ []))
-sent-holds r l k h = record {
-  good = sent-good r k (h .good);
-  lists = sent-listed r k (h .good) ∙ ap (λ (x : List EventId). take 64 (x ++ (k ∷ []))) (h .lists) ∙ take-again 64 l (k ∷ []);
-}
-
-pub sentDown-holds : (n : ℕ) (xs : List Event) (r : Returned) (l : List EventId) → Holds r l → Holds (sentDown n xs r) (l ++ idsDown n xs)
-unfolding sentDown idsDown
-sentDown-holds zero xs r l h = rw (append-nil l) h
-sentDown-holds (suc n) xs r l h =
-    let k = getD xs n blank .id in
-    rw (sym (append-assoc l (k ∷ []) (idsDown n xs))) (sentDown-holds n xs (sent r k) (l ++ (k ∷ [])) (sent-holds r l k h))
-
-pub sentReady-holds : (n : ℕ) (w : Ready) (r : Returned) (l : List EventId) → Holds r l → Holds (sentReady n w r) (l ++ idsReady n w)
-unfolding sentReady idsReady
-sentReady-holds zero w r l h = rw (append-nil l) h
-sentReady-holds (suc n) w r l h =
-    let k = Waiting.peeked w .id in
-    rw (sym (append-assoc l (k ∷ []) (idsReady n (Waiting.popped w)))) (sentReady-holds n (Waiting.popped w) (sent r k) (l ++ (k ∷ [])) (sent-holds r l k h))
-
--- what a reset sends back in mode None: the finished from the end, the waiting in order, the sounding from the end
-pub returned-holds : (s : Sequencer) (r : Returned) (l : List EventId) → Holds r l
-    → Holds (returnedBy None s r) (((l ++ idsDown (min (s .«past_len») 256) (s .past)) ++ idsReady (min (s .«ready_len») 256) (heapOf s)) ++ idsDown (min (s .«active_len») 256) (s .active))
-unfolding returnedBy
-returned-holds s r l h =
-    sentDown-holds (min (s .«active_len») 256) (s .active) _ _
-    (sentReady-holds (min (s .«ready_len») 256) (heapOf s) _ _ (sentDown-holds (min (s .«past_len») 256) (s .past) r l h))
-
-pub returned-good : (m : ReplayMode) (s : Sequencer) (r : Returned) → Good r → Good (returnedBy m s r)
-unfolding returnedBy
-returned-good All s r g = g
-returned-good None s r g = returned-holds s r (inQueue r) (holds-itself r g) .good
-
-pub handled-good : (n : ℕ) (d : SequencerBackend) → Good (d .returned) → Good (handled n d .returned)
-unfolding handled restarted
-handled-good zero d g = g
-handled-good (suc n) d g = go (isReset (peeked (d .messages))) (handled-good n (stepped d) g)
-  where
-    go : (b : Bool) → Good (handled n (stepped d) .returned) → Good (cond b (restarted (handled n (stepped d))) (handled n (stepped d)) .returned)
-    go true h = returned-good (handled n (stepped d) .sequencer .mode) (handled n (stepped d) .sequencer) (handled n (stepped d) .returned) h
-    go false h = h
-
-pub drained-good : (d : SequencerBackend) → Good (d .returned) → Good (drained d .returned)
-unfolding drained
-drained-good d g = handled-good (d .messages .count) d g

@@ -1,16 +1,15 @@
 -- A tape's records on the plain ledger: what each does to it, and which samples are heard. No engine stands here. Assumes nothing.
 use Prim.Native.Nat.{ℕ, zero, suc, _*_}
 use mathlib.Core.Bool.{cond}
-use mathlib.Core.List.{List, [], _∷_, _++_}
+use mathlib.Core.List.{List, [], _++_}
 use mathlib.Core.Option.{none}
 use lib.Dec.{eqb}
 use lib.Ieee.{Float}
 use lib.ListN.{take, drop, replicate}
-use Rattle.event.specs.declared.ReplayMode.the-variants.{All}
 use Rattle.floats.specs.Arithmetic.{zeroᶠ}
 use Rattle.ledger.specs.Calls.{PushKind, absolute, relative, byDuration, EditKind, absoluteEnd, relativeEnd, push, edit, tick, block, rate, reset, Answer, number, applied, past, stored, done, refused}
 use Rattle.ledger.specs.Calls as Calls
-use Rattle.ledger.specs.Ledger.{Ledger, fresh, create}
+use Rattle.ledger.specs.Ledger.{Ledger, create}
 use Rattle.ledger.specs.Steps.{Outcome, step}
 use Rattle.tape.specs.declared.reader.Call.{Call}
 use Rattle.tape.specs.declared.reader.Call.the-variants.{Create, Push, PushRelative, PushDuration, Edit, EditRelative, Tick, Process, Reset, SetSampleRate}
