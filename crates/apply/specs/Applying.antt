@@ -14,7 +14,8 @@ use Rattle.sequencer.specs.Pushes.{pushes}
 use Rattle.sequencer.specs.Edits.{edits}
 use Rattle.sequencer.specs.Rendering.{ticks, tickOuts, blocks, blockOuts}
 use Rattle.sequencer.specs.Resets.{resets, rates}
-use Rattle.ledger.specs.Calls.{absolute, relative, byDuration, absoluteEnd, relativeEnd}
+use Rattle.ledger.specs.Calls.{PushKind, absolute, relative, byDuration, absoluteEnd, relativeEnd}
+use Rattle.tape.specs.declared.reader.PushRecord.{PushRecord}
 use Rattle.tape.specs.declared.reader.Call.{Call}
 use Rattle.tape.specs.declared.reader.Call.the-variants.{Create, Push, PushRelative, PushDuration, Edit, EditRelative, Tick, Process, Reset, SetSampleRate}
 use Rattle.apply.specs.declared.Applied.{Applied}
@@ -63,12 +64,19 @@ processing pool n s out = soundingOf (blocks pool n (lentBlock s out) s) (channe
 unfoldable pub processingOut : (pool : List Float) → (n : ℕ) → Sequencer → (out : List Float) → List Float
 processingOut pool n s out = blockOuts pool n s (take (lentBlock s out) out) ++ drop (lentBlock s out) out
 
+-- "01 push, 02 relative, 03 by duration"
+abbrev pub pushKindOf : ℕ → PushKind
+pushKindOf kind = cond (eqb kind 1) absolute (cond (eqb kind 2) relative byDuration)
+
+abbrev pub pushed : PushKind → Sequencer → PushRecord → Outcome
+pushed kind s p = pushes kind s (p .«start_time») (p .«end_time») (p .«fade_ease») (p .«fade_in») (p .«fade_out») (p .source)
+
 -- the call of each kind of record
 unfoldable pub appliedTo : (pool : List Float) → Sequencer → Call → (out : List Float) → Applied
 appliedTo pool s (Create channels mode first) out = silentOf (created channels mode first)
-appliedTo pool s (Push p) out = silentOf (pushes absolute s (p .«start_time») (p .«end_time») (p .«fade_ease») (p .«fade_in») (p .«fade_out») (p .source))
-appliedTo pool s (PushRelative p) out = silentOf (pushes relative s (p .«start_time») (p .«end_time») (p .«fade_ease») (p .«fade_in») (p .«fade_out») (p .source))
-appliedTo pool s (PushDuration p) out = silentOf (pushes byDuration s (p .«start_time») (p .«end_time») (p .«fade_ease») (p .«fade_in») (p .«fade_out») (p .source))
+appliedTo pool s (Push p) out = silentOf (pushed absolute s p)
+appliedTo pool s (PushRelative p) out = silentOf (pushed relative s p)
+appliedTo pool s (PushDuration p) out = silentOf (pushed byDuration s p)
 appliedTo pool s (Edit p) out = silentOf (edits absoluteEnd s (p .id) (p .«end_time») (p .«fade_out»))
 appliedTo pool s (EditRelative p) out = silentOf (edits relativeEnd s (p .id) (p .«end_time») (p .«fade_out»))
 appliedTo pool s Tick out = ticking pool s out

@@ -5,12 +5,13 @@ ghost use lib.ListN.{replicate};
 ghost use Rattle.floats.specs.Arithmetic.{zeroᶠ};
 ghost use Rattle.event.specs.declared.ReplayMode.the-variants.{All};
 ghost use Rattle.sequencer.specs.Creation.{created};
-ghost use Rattle.apply.specs.Applying.{refusalOf, silentOf, soundingOf, ticking, tickingOut, processing, processingOut, appliedTo, appliedOut};
+ghost use Rattle.apply.specs.Applying.{refusalOf, silentOf, soundingOf, ticking, tickingOut, processing, processingOut, pushKindOf, pushed, appliedTo, appliedOut};
 use event::ReplayMode;
 use sequencer::Answer;
 use sequencer::Outcome;
 use sequencer::Sequencer;
 use tape::reader::Call;
+use tape::reader::PushRecord;
 
 // The engine after a call, the refusal or 0, and what an accepted tick or block has left in the output: `each` samples of every channel, `stride` places apart.
 pub struct Applied {
@@ -115,6 +116,23 @@ pub fn silence() -> [f32; 512]
     [0.0; 512]
 }
 
+// The push of a record of kind 1, 2 or 3.
+fn push(s: Sequencer, kind: u8, p: PushRecord) -> Outcome
+    ensures { λ r. ⌜ r ≡ pushed (pushKindOf kind) s p ⌝ }
+{
+    let start = p.start_time;
+    let end = p.end_time;
+    let ease = p.fade_ease;
+    let fade_in = p.fade_in;
+    let fade_out = p.fade_out;
+    let source = p.source;
+    match kind {
+        1 => s.push(start, end, ease, fade_in, fade_out, source),
+        2 => s.push_relative(start, end, ease, fade_in, fade_out, source),
+        _ => s.push_duration(start, end, ease, fade_in, fade_out, source),
+    }
+}
+
 // The samples of a tick or block go to the front of `out`, which has room for 64 of 8 channels.
 pub fn apply(s: Sequencer, call: Call, pool: &[f32], out: &mut [f32]) -> Applied
     ensures { λ r. ⌜ r ≡ appliedTo (now (pool .entry)) s call (now (out .entry)) ⌝ }
@@ -126,42 +144,9 @@ pub fn apply(s: Sequencer, call: Call, pool: &[f32], out: &mut [f32]) -> Applied
             mode,
             first,
         } => silent(Sequencer::new(channels as usize, mode, first)),
-        Call::Push(p) => {
-            let ease = p.fade_ease;
-            let source = p.source;
-            silent(s.push(
-                p.start_time,
-                p.end_time,
-                ease,
-                p.fade_in,
-                p.fade_out,
-                source,
-            ))
-        }
-        Call::PushRelative(p) => {
-            let ease = p.fade_ease;
-            let source = p.source;
-            silent(s.push_relative(
-                p.start_time,
-                p.end_time,
-                ease,
-                p.fade_in,
-                p.fade_out,
-                source,
-            ))
-        }
-        Call::PushDuration(p) => {
-            let ease = p.fade_ease;
-            let source = p.source;
-            silent(s.push_duration(
-                p.start_time,
-                p.end_time,
-                ease,
-                p.fade_in,
-                p.fade_out,
-                source,
-            ))
-        }
+        Call::Push(p) => silent(push(s, 1, p)),
+        Call::PushRelative(p) => silent(push(s, 2, p)),
+        Call::PushDuration(p) => silent(push(s, 3, p)),
         Call::Edit(p) => {
             let id = p.id;
             silent(s.edit(id, p.end_time, p.fade_out))

@@ -11,7 +11,7 @@ use Rattle.event.specs.declared.Edit.{Edit}
 use Rattle.floats.specs.Arithmetic.{_<ᶠ_}
 use Rattle.ledger.specs.Lists.{has, placeOf, editOf}
 use Rattle.ledger.specs.Ledger.{Ledger}
-use Rattle.ledger.specs.Steps as Ledger
+use Rattle.ledger.specs.Steps as Plain
 use Rattle.ledger.specs.Steps.{change}
 use Rattle.lists.specs.declared.Found.{Found}
 use Rattle.lists.specs.declared.Found.the-variants.{At, Nothing}
@@ -25,7 +25,7 @@ use Rattle.sequencer.specs.Answers.{answerOf}
 use Rattle.sequencer.specs.Edits.{indexOf, changedBy, changed}
 use Rattle.claim.specs.Related.{Related}
 
-abbrev pub Same : Outcome → Ledger.Outcome → Type 0
+abbrev pub Same : Outcome → Plain.Outcome → Type 0
 Same a b = Related (a .sequencer) (b .ledger) × (answerOf (a .answer) ≡ b .reply .answer)
 
 module _ (s : Sequencer) (l : Ledger) (k : EventId) (d : Edit) where

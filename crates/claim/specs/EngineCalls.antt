@@ -25,7 +25,7 @@ engineNew channels mode first =
 
 -- the state after a call; its answer; and the output lent back, where one was lent
 abbrev pub gives : Outcome → (out : List Float) → Sequencer × Reply
-gives o out = (o .sequencer, record { answer = answerOf (o .answer); out = out; scratch = none; given = 64 })
+gives o out = (o .sequencer, record { answer = answerOf (o .answer); out = out; scratch = none; filled = 64 })
 
 abbrev pub engineCall : Sequencer → Call → Sequencer × Reply
 engineCall s (push kind start end fade-in fade-out curve source) = gives (pushes kind s start end curve fade-in fade-out source) []

@@ -9,10 +9,11 @@ use lib.ListN.{set}
 use Rattle.event.specs.declared.Event.{Event}
 use Rattle.event.specs.declared.Fade.{Fade}
 use Rattle.event.specs.declared.Source.{Source}
+use Rattle.event.specs.Events.{newEvent}
 use Rattle.ledger.specs.Calls.{number}
 use Rattle.ledger.specs.Lists.{insert}
 use Rattle.ledger.specs.Ledger.{Ledger, held}
-use Rattle.ledger.specs.Steps.{newEvent, enter}
+use Rattle.ledger.specs.Steps.{enter}
 use Rattle.ready.specs.Waits.{waits-length}
 use Rattle.lists.specs.Holds.{holds-length}
 use Rattle.sequencer.specs.declared.Sequencer.{Sequencer}

@@ -14,3 +14,4 @@ pub mod SamplesAgree
 pub mod EngineCalls
 pub mod Steps
 pub mod Theorem
+pub mod Refused

@@ -15,13 +15,11 @@ use Rattle.event.specs.declared.Fade.{Fade}
 use Rattle.event.specs.declared.Source.{Source}
 use Rattle.event.specs.declared.StoredEdit.{StoredEdit}
 use Rattle.floats.specs.Arithmetic.{_-ᵈ_, _<ᶠ_}
-use Rattle.lists.specs.declared.ActiveMap.{ActiveMap}
 use Rattle.lists.specs.declared.EditMap.{EditMap}
 use Rattle.lists.specs.declared.Found.{Found}
 use Rattle.lists.specs.declared.Found.the-variants.{At, Nothing}
 use Rattle.lists.specs.declared.FoundEdit.{FoundEdit}
 use Rattle.lists.specs.declared.FoundEdit.the-variants.{Stored, Missing}
-use Rattle.lists.specs.Index.{foundId}
 use Rattle.lists.specs.Edits.{foundEdit}
 use Rattle.lists.specs.EditList.{editFound}
 use Rattle.lists.specs.Sounding.{placeFound}
@@ -57,7 +55,7 @@ agrees (refuses k false ∷ l) h = agrees l (h .1)
 -- ---- a push
 
 -- number 0 stands for 2 ^ 64, of which there is none
-pub spent : (given number : ℕ) → 0 < given → given ≤ 2 ^ 64 → number ≡ given % 2 ^ 64 → eqb number 0 ≡ leb (2 ^ 64) given
+pub spent : (next number : ℕ) → 0 < next → next ≤ 2 ^ 64 → number ≡ next % 2 ^ 64 → eqb number 0 ≡ leb (2 ^ 64) next
 spent n m p q h = go (decLt n (2 ^ 64))
   where
     go : Dec (n < 2 ^ 64) → eqb m 0 ≡ leb (2 ^ 64) n
@@ -91,13 +89,13 @@ module _ (k : ℕ) (s : List Event) (x : List StoredEdit) where
   room-agrees Nothing false (Stored d) n p q r = rw (place-none k s (sym p), ← q)
   room-agrees Nothing false Missing n p q r = rw (place-none k s (sym p), ← q, r)
 
-pub edit-refused : (l : Ledger) (kind : EditKind) (k : ℕ) (end fade-out : Float) (index : ActiveMap) (edits : EditMap) (θ until : Float)
-    → placeFound (foundId index (record { 0 = k })) ≡ placeOf k (l .sounding) → editFound (foundEdit edits (record { 0 = k })) ≡ editOf k (l .edits) → edits .len ≡ length (l .edits)
+pub edit-refused : (l : Ledger) (kind : EditKind) (k : ℕ) (end fade-out : Float) (found : Found) (edits : EditMap) (θ until : Float)
+    → placeFound found ≡ placeOf k (l .sounding) → editFound (foundEdit edits (record { 0 = k })) ≡ editOf k (l .edits) → edits .len ≡ length (l .edits)
     → θ ≡ l .threshold → until ≡ editEnd kind (l .clock) end
-    → Agrees (editRefusal index edits θ (record { 0 = k }) end until fade-out) (refusal l (edit kind k end fade-out))
+    → Agrees (editRefusal found edits θ (record { 0 = k }) end until fade-out) (refusal l (edit kind k end fade-out))
 unfolding editRefusal noRoom refusal checks editChecks
-edit-refused l kind k end fade-out index edits θ until p q n h u =
-    let room = room-agrees k (l .sounding) (l .edits) (foundId index (record { 0 = k })) (until <ᶠ θ) (foundEdit edits (record { 0 = k })) (edits .len) p q n in
+edit-refused l kind k end fade-out found edits θ until p q n h u =
+    let room = room-agrees k (l .sounding) (l .edits) found (until <ᶠ θ) (foundEdit edits (record { 0 = k })) (edits .len) p q n in
     rw (room, h, u) (agrees (editChecks l kind k end fade-out) (tt, (tt, tt)))
 
 -- ---- a tick, a block, a rate

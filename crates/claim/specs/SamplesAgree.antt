@@ -17,7 +17,7 @@ use Rattle.lists.specs.Sounding.{idOf}
 use Rattle.ledger.specs.TickSamples.{afterTick, tickSum}
 use Rattle.ledger.specs.BlockSamples.{Span, firstPlace, endPlace, fadedRun, addAt, channelAfter, scratchAfter, afterBlock, blockSum}
 use Rattle.ledger.specs.Ledger.{Ledger}
-use Rattle.ledger.specs.Steps as Ledger
+use Rattle.ledger.specs.Steps as Plain
 use Rattle.ledger.specs.Steps.{cleared}
 use Rattle.mixing.specs.Blocks.{clearedPlaces, cleared-is, cleared-within}
 use Rattle.sequencer.specs.declared.Sequencer.{Sequencer}
@@ -82,23 +82,23 @@ same-ids f h (e ∷ l) = ap₂ (λ x y. x ∷ y) (sym (h e)) (same-ids f h l)
 
 module _ {S : Type 0} (next : Event → Event) (plus : S → Event → S) (z : S) (keeps : (e : Event) → idOf (next e) ≡ idOf e) where
   related-pass : (s : Sequencer) (l : Ledger) → Related s l → let p = passes next plus blank (min (s .«active_len») 256) (s .active) 0 z in
-      Related (withSounding s (p .items)) (Ledger.withSounding l (map next (l .sounding))) × (p .sum ≡ foldl plus z (l .sounding))
+      Related (withSounding s (p .items)) (Plain.withSounding l (map next (l .sounding))) × (p .sum ≡ foldl plus z (l .sounding))
   related-pass s l r =
       let whole : s .«active_len» ≡ min (s .«active_len») 256 = omega (arith, r .lists .1 .fits) in
       let p = holds-pass next plus blank (s .active) (s .«active_len») (l .sounding) z (r .lists .1) in
       subst
-      (λ (n : ℕ). let p = passes next plus blank n (s .active) 0 z in Related (withSounding s (p .items)) (Ledger.withSounding l (map next (l .sounding))) × (p .sum ≡ foldl plus z (l .sounding)))
+      (λ (n : ℕ). let p = passes next plus blank n (s .active) 0 z in Related (withSounding s (p .items)) (Plain.withSounding l (map next (l .sounding))) × (p .sum ≡ foldl plus z (l .sounding)))
       whole
       (record { lists = (r .lists .0, p .0, holds-to (same-ids next keeps (l .sounding)) (r .lists .2), r .lists .3, r .lists .4); plain = r .plain }, p .1)
 
 -- ---- a tick at clock t, and a block
 
 pub related-tick : (pool : List Float) (t : Float) (s : Sequencer) (l : Ledger) → Related s l → let sum = tickSum pool t (l .sounding) zeroᶠ in
-    Related (withSounding s (tickPass pool t s .items)) (Ledger.withSounding l (sum .events)) × (tickPass pool t s .sum ≡ sum .out)
+    Related (withSounding s (tickPass pool t s .items)) (Plain.withSounding l (sum .events)) × (tickPass pool t s .sum ≡ sum .out)
 unfolding tickPass
 related-tick pool t s l r =
     let k = related-pass afterTick (addTick pool t) zeroᶠ (λ e. refl) s l r in
-    (subst (λ (x : List Event). Related (withSounding s (tickPass pool t s .items)) (Ledger.withSounding l x)) (tick-events pool t (l .sounding) zeroᶠ) (k .0), k .1 ∙ tick-out pool t (l .sounding) zeroᶠ)
+    (subst (λ (x : List Event). Related (withSounding s (tickPass pool t s .items)) (Plain.withSounding l x)) (tick-events pool t (l .sounding) zeroᶠ) (k .0), k .1 ∙ tick-out pool t (l .sounding) zeroᶠ)
 
 after-id : (b : Span) (e : Event) → idOf (afterBlock b e) ≡ idOf e
 unfolding afterBlock
@@ -109,13 +109,13 @@ after-id b e = go (ltb (firstPlace b e) (endPlace b e))
     go false = refl
 
 pub related-block : (pool : List Float) (b : Span) (n : ℕ) (s : Sequencer) (l : Ledger) → n ≤ 64 → Related s l → let sum = blockSum pool b (l .sounding) (cleared n) [] in
-    Related (withSounding s (blockPass pool b n s .items)) (Ledger.withSounding l (sum .events)) × (take 64 (blockPass pool b n s .sum) ≡ sum .channel)
+    Related (withSounding s (blockPass pool b n s .items)) (Plain.withSounding l (sum .events)) × (take 64 (blockPass pool b n s .sum) ≡ sum .channel)
 unfolding blockPass
 related-block pool b n s l h r =
     let z : List Float = replicate (clearedPlaces n) zeroᶠ in
     let k = related-pass (afterBlock b) (addBlock pool b) z (after-id b) s l r in
     let same : z ≡ cleared n = ap (λ (m : ℕ). replicate m zeroᶠ) (cleared-is n h) in
     let short : length (foldl (addBlock pool b) z (l .sounding)) ≤ 64 = omega (arith, length-channel pool b (l .sounding) z, length-replicate (clearedPlaces n) zeroᶠ, cleared-within n) in (
-      subst (λ (x : List Event). Related (withSounding s (blockPass pool b n s .items)) (Ledger.withSounding l x)) (block-events pool b (l .sounding) (cleared n) []) (k .0),
+      subst (λ (x : List Event). Related (withSounding s (blockPass pool b n s .items)) (Plain.withSounding l x)) (block-events pool b (l .sounding) (cleared n) []) (k .0),
       ap (take 64) (k .1) ∙ take-all 64 (foldl (addBlock pool b) z (l .sounding)) short ∙ ap (λ (x : List Float). foldl (addBlock pool b) x (l .sounding)) same ∙ block-channel pool b (l .sounding) (cleared n) [],
     )

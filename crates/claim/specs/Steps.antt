@@ -26,20 +26,20 @@ use Rattle.ledger.specs.Ledger.{Ledger, held}
 use Rattle.ledger.specs.Refusals.{firstOf, checks, pushChecks, editChecks, refusal, statedEnd, editEnd, missing}
 use Rattle.ledger.specs.Refusals as Checks
 use Rattle.ledger.specs.Refused.{AllPass, all-pass}
-use Rattle.ledger.specs.Steps as Ledger
+use Rattle.ledger.specs.Steps as Plain
 use Rattle.ledger.specs.Steps.{step, decide, accept, refusedReply, pushedTime, change, advance, cleared}
 use Rattle.ledger.specs.Lawful.{Lawful}
 use Rattle.ledger.specs.LedgerMeets.{same-reply}
-use Rattle.ledger.specs.Holdable.{Holdable}
-use Rattle.ledger.specs.Claim.{SameReply}
+use Rattle.ledger.specs.Claim.{SameReply, Lends}
 use Rattle.sequencer.specs.declared.Sequencer.{Sequencer}
 use Rattle.sequencer.specs.declared.Outcome.{Outcome}
 use Rattle.sequencer.specs.Answers.{answerOf, accepts, refuses}
 use Rattle.sequencer.specs.Parts.{withSounding}
 use Rattle.sequencer.specs.Moves.{advanced}
 use Rattle.refusals.specs.Refusals.{pushRefusal, editRefusal, tickRefusal, processRefusal, rateRefusal}
-use Rattle.sequencer.specs.Pushes.{admitted, pushes}
-use Rattle.sequencer.specs.Edits.{indexOf, changed, amended, edits}
+use Rattle.sequencer.specs.Pushes.{admitted, pushesTo, pushes}
+use Rattle.sequencer.specs.Edits.{changed, amended, edits}
+use Rattle.sequencer.specs.Readers.{placeIn}
 use Rattle.sequencer.specs.Rendering.{tickEnd, tickPass, renderedTick, renderedTickOut, ticks, tickOuts, blockEnd, spanOf, blockPass, renderedBlock, renderedBlockOut, blocks, blockOuts}
 use Rattle.sequencer.specs.Resets.{reRated, rates, resets}
 use Rattle.claim.specs.Related.{Related}
@@ -52,7 +52,7 @@ use Rattle.claim.specs.RefusalsAgree.{Agrees, spent, push-refused, edit-
 use Rattle.claim.specs.SamplesAgree.{related-tick, related-block}
 use Rattle.claim.specs.EngineCalls.{gives, engineCall}
 
-abbrev pub Keeps : Sequencer × Reply → Ledger.Outcome → Type 0
+abbrev pub Keeps : Sequencer × Reply → Plain.Outcome → Type 0
 Keeps a o = Related (a .0) (o .ledger) × SameReply (a .1) (o .reply)
 
 -- ---- a call is refused by both with one number, or carried out by both
@@ -63,7 +63,7 @@ by-refusal : (s : Sequencer) (l : Ledger) (c : Call) (n : ℕ) (X : Bool → Seq
 unfolding step decide
 by-refusal s l c n X r h f t = go (refusal l c) refl h
   where
-    turnedDown : ℕ → Ledger.Outcome
+    turnedDown : ℕ → Plain.Outcome
     turnedDown k = record { ledger = l; reply = refusedReply k c }
 
     go : (o : Option ℕ) → refusal l c ≡ o → Agrees n o → Keeps (X (eqb n 0)) (decide o l c)
@@ -89,7 +89,7 @@ first-of false b h = h
 
 module _ (s : Sequencer) (l : Ledger) (kind : PushKind) (start end : Float) (curve : Fade) (fade-in fade-out : Float) (source : Source) where
   pub keep-push : Lawful l → Related s l → Keeps (gives (pushes kind s start end curve fade-in fade-out source) []) (step l (push kind start end fade-in fade-out curve source))
-  unfolding pushes admitted accept checks pushChecks
+  unfolding pushes pushesTo admitted accept checks pushChecks
   keep-push w r = by-refusal s l C N X r (push-refused l kind start end fade-in fade-out curve source H (s .next) counts (spent (l .next) (s .next) (w .positive) (w .next) (r .plain .6))) refl carried
     where
       C : Call
@@ -128,7 +128,7 @@ room-left false true c d h p q o = absurd (true≢false q)
 room-left false false true d h p q o = h
 room-left false false false d h p q o = absurd (true≢false (sym o))
 
-change-replies : (l : Ledger) (k : ℕ) (d : Edit) (a b : Bool) (x : Answer) → x ≡ change l k d a b .reply .answer → SameReply (Ledger.answers x) (change l k d a b .reply)
+change-replies : (l : Ledger) (k : ℕ) (d : Edit) (a b : Bool) (x : Answer) → x ≡ change l k d a b .reply .answer → SameReply (Plain.answers x) (change l k d a b .reply)
 unfolding change
 change-replies l k d true b x h = record { answer = h; out = refl; scratch = tt }
 change-replies l k d false true x h = record { answer = h; out = refl; scratch = tt }
@@ -146,11 +146,11 @@ module _ (s : Sequencer) (l : Ledger) (kind : EditKind) (k : ℕ) (end fade-out 
       C = edit kind k end fade-out
 
       N : ℕ
-      N = editRefusal (indexOf s) (s .«edit_map») (s .«active_threshold») id end (editEnd kind (s .time) end) fade-out
+      N = editRefusal (placeIn s id) (s .«edit_map») (s .«active_threshold») id end (editEnd kind (s .time) end) fade-out
 
       agreed : Agrees N (refusal l C)
       agreed =
-          edit-refused l kind k end fade-out (indexOf s) (s .«edit_map») (s .«active_threshold») (editEnd kind (s .time) end)
+          edit-refused l kind k end fade-out (placeIn s id) (s .«edit_map») (s .«active_threshold») (editEnd kind (s .time) end)
           (index-find id (r .lists .1, r .lists .2)) (edits-find (s .«edit_map») id (l .edits) (r .lists .4)) (sym (holds-length (r .lists .4)))
           (r .plain .1) (ap (λ (t : Float). editEnd kind t end) (r .plain .0))
 
@@ -199,7 +199,7 @@ module _ (s : Sequencer) (l : Ledger) (pool out : List Float) where
       Same : (e t : Float) → Type 0
       Same e t =
           let sum = tickSum pool (l .clock) (advance l E .sounding) zeroᶠ in
-          Related (withSounding (advanced s e) (tickPass pool t (advanced s e) .items)) (Ledger.withSounding (advance l E) (sum .events)) × (tickPass pool t (advanced s e) .sum ≡ sum .out)
+          Related (withSounding (advanced s e) (tickPass pool t (advanced s e) .items)) (Plain.withSounding (advance l E) (sum .events)) × (tickPass pool t (advanced s e) .sum ≡ sum .out)
 
       same : Same (tickEnd s) (s .time)
       same =
@@ -234,23 +234,23 @@ module _ (s : Sequencer) (l : Ledger) (n : ℕ) (pool out : List Float) where
       ends : blockEnd s n ≡ E
       ends = λ i. r .plain .0 i +ᵈ r .plain .3 i ×ᵈ whole n
 
-      spans : n ≤ 64 → spanOf s n ≡ Ledger.spanOf l n
+      spans : n ≤ 64 → spanOf s n ≡ Plain.spanOf l n
       spans h =
           let size : min 64 n ≡ n = omega arith in
           λ i. record { size = size i; clock = r .plain .0 i; upto = ends i; rate = r .plain .2 i; duration = r .plain .3 i }
 
       Sum : BlockSum
-      Sum = blockSum pool (Ledger.spanOf l n) (advance l E .sounding) (cleared n) []
+      Sum = blockSum pool (Plain.spanOf l n) (advance l E .sounding) (cleared n) []
 
       Same : Float → Span → Type 0
       Same e b =
-          Related (withSounding (advanced s e) (blockPass pool b n (advanced s e) .items)) (Ledger.withSounding (advance l E) (Sum .events))
+          Related (withSounding (advanced s e) (blockPass pool b n (advanced s e) .items)) (Plain.withSounding (advance l E) (Sum .events))
           × (take 64 (blockPass pool b n (advanced s e) .sum) ≡ Sum .channel)
 
       same : n ≤ 64 → Same (blockEnd s n) (spanOf s n)
       same h =
           subst (λ (b : Span). Same (blockEnd s n) b) (sym (spans h))
-          (subst (λ (e : Float). Same e (Ledger.spanOf l n)) (sym ends) (related-block pool (Ledger.spanOf l n) n (advanced s E) (advance l E) h (related-advance s l E w r)))
+          (subst (λ (e : Float). Same e (Plain.spanOf l n)) (sym ends) (related-block pool (Plain.spanOf l n) n (advanced s E) (advance l E) h (related-advance s l E w r)))
 
       carried : refusal l C ≡ none → Keeps (X true) (accept l C)
       carried q =
@@ -266,19 +266,19 @@ pub keep-rate : (s : Sequencer) (l : Ledger) (r : Float) → Lawful l → Relate
 unfolding rates accept
 keep-rate s l r w h =
     by-refusal s l (rate r) (rateRefusal r) (λ b. gives (cond b (accepts (reRated s r)) (refuses s (rateRefusal r))) []) h (rate-refused l r) refl
-    (λ q. (related-rate s l r w h, same-reply (Ledger.answers done)))
+    (λ q. (related-rate s l r w h, same-reply (Plain.answers done)))
 
 pub keep-reset : (s : Sequencer) (l : Ledger) → Lawful l → Related s l → Keeps (gives (accepts (resets s)) []) (step l reset)
 unfolding step refusal checks firstOf decide accept
-keep-reset s l w r = (related-reset s l w r, same-reply (Ledger.answers done))
+keep-reset s l w r = (related-reset s l w r, same-reply (Plain.answers done))
 
--- ---- every call that the machine can hold
+-- ---- every call, blocks being lent no scratch
 
-pub keep : (s : Sequencer) (l : Ledger) (c : Call) → Holdable false c → Lawful l → Related s l → Keeps (engineCall s c) (step l c)
+pub keep : (s : Sequencer) (l : Ledger) (c : Call) → Lends false c → Lawful l → Related s l → Keeps (engineCall s c) (step l c)
 keep s l (push kind start end fade-in fade-out curve source) h w r = keep-push s l kind start end curve fade-in fade-out source w r
 keep s l (edit kind k end fade-out) h w r = keep-edit s l kind k end fade-out r
 keep s l (tick pool out) h w r = keep-tick s l pool out w r
 keep s l (block n pool out none) h w r = keep-block s l n pool out w r
-keep s l (block n pool out (some x)) h w r = absurd (h .3)
+keep s l (block n pool out (some x)) h w r = absurd (true≢false h)
 keep s l (rate x) h w r = keep-rate s l x w r
 keep s l reset h w r = keep-reset s l w r

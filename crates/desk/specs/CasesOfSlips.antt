@@ -10,20 +10,21 @@ use Rattle.event.specs.declared.Fade.the-variants.{Smooth}
 use Rattle.event.specs.declared.ReplayMode.the-variants.{None}
 use Rattle.event.specs.declared.Source.the-variants.{Held}
 use Rattle.floats.specs.Arithmetic.{zeroᶠ, oneᶠ}
+use Rattle.event.specs.Events.{newEvent}
 use Rattle.ledger.specs.Calls.{absolute, absoluteEnd}
 use Rattle.ledger.specs.Ledger.{Ledger, held, fresh}
 use Rattle.ledger.specs.Numbers.{upFrom}
-use Rattle.ledger.specs.Steps.{newEvent, withLists}
-use Rattle.desk.specs.Desk.{Message, push, edit, reset, tick, front, back, Desk, opened, sendFinished, restarted, refusalOf, run}
+use Rattle.ledger.specs.Steps.{withLists}
+use Rattle.desk.specs.Desk.{Message, push, edit, reset, tick, front, back, Desk, opened, sendFinished, restarted, deskRefusal, run}
 
-abbrev held1 : Message
+abbrev pub held1 : Message
 held1 = push absolute zeroᶠ oneᶠ zeroᶠ zeroᶠ Smooth (Held oneᶠ)
 
-abbrev event : (start : Float) → (number : ℕ) → Event
+abbrev pub event : (start : Float) → (number : ℕ) → Event
 event start k = newEvent start oneᶠ zeroᶠ zeroᶠ Smooth (Held oneᶠ) k
 
 -- a desk in mode None that holds these
-abbrev desk : (waiting sounding finished : List Event) → (queued : List Message) → (returned : List ℕ) → Desk
+abbrev pub desk : (waiting sounding finished : List Event) → (queued : List Message) → (returned : List ℕ) → Desk
 desk w s f q r = let l = fresh 1 None 1 in record { back = withLists l w s f (l .edits) (l .clock) (l .threshold) (l .gone); queued = q; returned = r }
 
 -- The queue is not handled flat: the push behind a queued reset is let go (case 8).
@@ -50,10 +51,10 @@ unfolding oneLost
 lost-is-let-go = (refl, refl)
 
 -- 6 counts queued pushes, and comes before 13; 9 counts queued edits, and comes before 13 too.
-pub held-and-queued : refusalOf (desk (replicate 192 (event zeroᶠ 1)) [] [] (replicate 64 held1) []) (front held1) ≡ some 6
-unfolding refusalOf fresh
+pub held-and-queued : deskRefusal (desk (replicate 192 (event zeroᶠ 1)) [] [] (replicate 64 held1) []) (front held1) ≡ some 6
+unfolding deskRefusal fresh
 held-and-queued = refl
 
-pub full-queue : refusalOf (desk (replicate 191 (event zeroᶠ 1)) [] [] (replicate 64 held1) []) (front held1) ≡ some 13
-unfolding refusalOf fresh
+pub full-queue : deskRefusal (desk (replicate 191 (event zeroᶠ 1)) [] [] (replicate 64 held1) []) (front held1) ≡ some 13
+unfolding deskRefusal fresh
 full-queue = refl

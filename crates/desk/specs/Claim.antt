@@ -1,5 +1,5 @@
--- The claim about a desk with an engine, given by its creation, its calls and its view: one claim about every list of front and back calls, refused ones included, and whatever is lent. It has no proof here: `specs.ClaimByRelation` has the way to one.
-use Prim.Native.Nat.{ℕ, suc, _+_, _^_, _<_}
+-- The claim about a desk with an engine, given by its creation, its calls and its view: one claim about every list of front and back calls, with any arguments, refused ones included, and whatever is lent. It has no proof here: `specs.ClaimByRelation` has the way to one.
+use Prim.Native.Nat.{ℕ, suc, _+_, _^_, _%_, _<_}
 use mathlib.Core.Path.{_≡_}
 use mathlib.Core.Bool.{Bool, true, false, cond}
 use mathlib.Core.List.{List, [], _∷_, _++_, List·Memᴰ}
@@ -8,16 +8,15 @@ use Rattle.event.specs.declared.Edit.{Edit}
 use Rattle.event.specs.declared.Event.{Event}
 use Rattle.event.specs.declared.ReplayMode.{ReplayMode}
 use Rattle.floats.specs.Arithmetic.{_<ᶠ_}
+use Rattle.event.specs.Events.{newEvent}
 use Rattle.ledger.specs.Calls as Calls
-use Rattle.ledger.specs.Calls.{PushKind, absolute, relative, byDuration, EditKind, absoluteEnd, relativeEnd}
+use Rattle.ledger.specs.Calls.{isRelative, endRelative}
 use Rattle.ledger.specs.Lists.{numbers}
 use Rattle.ledger.specs.Ledger.{create}
 use Rattle.ledger.specs.Refusals.{statedEnd}
-use Rattle.ledger.specs.Steps.{newEvent}
 use Rattle.ledger.specs.Numbers.{among, times}
-use Rattle.ledger.specs.Holdable.{Holdable}
 use Rattle.ledger.specs.Claim.{View, SameState, IndexGivesPlaces}
-use Rattle.desk.specs.Desk.{Message, push, edit, reset, Call, front, back, messageCall, backCall, Answer, number, queued, done, refused, Reply, Desk, opened, run}
+use Rattle.desk.specs.Desk.{Message, push, edit, reset, Call, front, back, Answer, number, queued, done, refused, Reply, Desk, nextNumber, opened, run}
 
 -- ---- a desk with an engine
 
@@ -71,15 +70,7 @@ deskAfter channels mode first cs =
 
 -- ---- what they have in common
 
--- whether a push's times, an edit's end, are relative to the clock at handling; by duration, the end is stated at queuing
-abbrev pub isRelative : PushKind → Bool
-isRelative absolute = false
-isRelative relative = true
-isRelative byDuration = false
-
-abbrev pub endRelative : EditKind → Bool
-endRelative absoluteEnd = false
-endRelative relativeEnd = true
+-- A queued push's times, an edit's end, may be relative to the clock at handling; by duration, the end is stated at queuing.
 
 -- the queued messages, the pushes numbered from k on
 abbrev pub sentFrom : (k : ℕ) → List Message → List Sent
@@ -107,21 +98,12 @@ abbrev pub accepted : List Reply → List ℕ
 accepted [] = []
 accepted (r ∷ l) = acceptedOf (r .answer) ++ accepted l
 
--- calls whose arguments the machine can hold
-abbrev pub HoldableCall : Call → Type 0
-HoldableCall (front m) = Holdable false (messageCall m)
-HoldableCall (back c) = Holdable false (backCall c)
-
-abbrev pub AllHoldable : List Call → Type 0
-AllHoldable [] = Unit {0}
-AllHoldable (c ∷ cs) = HoldableCall c × AllHoldable cs
-
 -- ---- the claim
 
 pub record DeskClaimAt (e : DeskEngineAfter) (d : DeskAfter) : Type 0 where
-  -- accepted pushes = queued + waiting + sounding + finished + let go
-  pub counted : length (accepted (e .replies))
-      ≡ length (sentNumbers (e .view .queued)) + length (e .view .back .heap) + length (e .view .back .sounding) + length (e .view .back .finished) + e .view .back .gone
+  -- accepted pushes = queued + waiting + sounding + finished + let go, by the counts that the back tells
+  pub counted : let c = e .view .back .counts in
+      length (accepted (e .replies)) ≡ length (sentNumbers (e .view .queued)) + c .waiting + c .sounding + c .finished + c .gone
   -- each accepted push is in exactly one of them, and a number that no push was answered with is in none
   pub once : (k : ℕ)
       → times k (sentNumbers (e .view .queued) ++ (numbers (e .view .back .heap) ++ (numbers (e .view .back .sounding) ++ (numbers (e .view .back .finished) ++ d .desk .back .gone))))
@@ -130,16 +112,17 @@ pub record DeskClaimAt (e : DeskEngineAfter) (d : DeskAfter) : Type 0 where
   pub index : IndexGivesPlaces (e .view .back)
   -- no waiting event starts before the threshold
   pub on-time : (x : Event) → List·Memᴰ x (e .view .back .heap) → (x .«start_time» <ᶠ e .view .back .threshold) ≡ false
-  -- the lists, let-go count, clock, threshold and edits are the desk ledger's
+  -- the lists and counts, clock, threshold, edits, rate, channels and mode are the desk ledger's
   pub state : SameState (e .view .back) (d .desk .back)
+  pub next : e .view .back .next ≡ nextNumber (d .desk) % 2 ^ 64
   -- and both queues
   pub queues : (e .view .queued ≡ sentFrom (d .desk .back .next) (d .desk .queued)) × (e .view .returned ≡ d .desk .returned)
   -- every answer and every sample are the desk ledger's, the creation's answer first
   pub created : e .created ≡ d .created
   pub replies : e .replies ≡ d .replies
 
--- From any fresh engine, after any list of calls that the machine can hold.
+-- From any fresh engine (a first number is a u64), after any list of calls.
 abbrev pub DeskClaim : DeskEngine → Type 0
 DeskClaim E =
-    (channels : ℕ) (mode : ReplayMode) (first : ℕ) (cs : List Call) → channels < 2 ^ 64 → first < 2 ^ 64 → AllHoldable cs
+    (channels : ℕ) (mode : ReplayMode) (first : ℕ) (cs : List Call) → first < 2 ^ 64
     → DeskClaimAt (engineAfter E channels mode first cs) (deskAfter channels mode first cs)

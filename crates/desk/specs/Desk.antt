@@ -146,10 +146,10 @@ frontChecks d (edit kind k end fade-out) =
 frontChecks d reset = full d ∷ []
 
 -- a back call's refusals are the plain ledger's, before draining
-unfoldable pub refusalOf : Desk → Call → Option ℕ
+unfoldable pub deskRefusal : Desk → Call → Option ℕ
 unfolding frontChecks firstOf refusal
-refusalOf d (front m) = firstOf (frontChecks d m)
-refusalOf d (back c) = refusal (d .back) (backCall c)
+deskRefusal d (front m) = firstOf (frontChecks d m)
+deskRefusal d (back c) = refusal (d .back) (backCall c)
 
 -- ---- calls that no refusal names
 
@@ -201,8 +201,8 @@ decide (some k) d c = record { desk = d; reply = record { answer = refused k; ou
 decide none d c = carriedOut d c
 
 unfoldable pub step : Desk → Call → Outcome
-unfolding refusalOf decide
-step d c = decide (refusalOf d c) d c
+unfolding deskRefusal decide
+step d c = decide (deskRefusal d c) d c
 
 -- ---- any list of calls
 

@@ -1,17 +1,15 @@
 -- The claim can be met: the desk's ledger itself, taken as an engine, meets it. Assumes nothing.
+use Prim.Native.Nat.{_^_, _%_}
 use mathlib.Core.Path.{_≡_, refl, subst}
-use mathlib.Core.List.{Perm·refl}
-use lib.ListN.{length}
-use Rattle.ledger.specs.Lists.{placeOf}
-use Rattle.ledger.specs.Ledger.{Ledger, create}
-use Rattle.ledger.specs.Claim.{View, SameState, IndexGivesPlaces}
-use Rattle.ledger.specs.LedgerMeets.{viewOf}
-use Rattle.desk.specs.Desk.{Desk, opened, step}
+use Rattle.ledger.specs.Ledger.{create}
+use Rattle.ledger.specs.Claim.{SameState, IndexGivesPlaces}
+use Rattle.ledger.specs.LedgerMeets.{viewWith, same-state}
+use Rattle.desk.specs.Desk.{Desk, nextNumber, opened, step}
 use Rattle.desk.specs.Claim.{DeskView, DeskEngine, DeskClaim, sentFrom}
 use Rattle.desk.specs.ClaimByRelation.{desk-claim-by-relation}
 
 abbrev pub deskView : Desk → DeskView
-deskView d = record { back = viewOf (d .back); queued = sentFrom (d .back .next) (d .queued); returned = d .returned }
+deskView d = record { back = viewWith (nextNumber d % 2 ^ 64) (d .back); queued = sentFrom (d .back .next) (d .queued); returned = d .returned }
 
 abbrev pub deskItself : DeskEngine
 deskItself = record {
@@ -21,22 +19,12 @@ deskItself = record {
   view = deskView;
 }
 
-same-state : (l : Ledger) → SameState (viewOf l) l
-same-state l = record {
-  heap = Perm·refl (l .waiting);
-  sounding = refl;
-  finished = refl;
-  gone = refl;
-  clock = refl;
-  threshold = refl;
-  edits = refl;
-}
-
 pub desk-meets : DeskClaim deskItself
 desk-meets =
     desk-claim-by-relation deskItself (λ e d. e ≡ d)
-    (λ channels mode first c f. (refl, refl))
-    (λ e d c h w r. subst (λ m. (step e c .desk ≡ step m c .desk) × (step e c .reply ≡ step m c .reply)) r (refl, refl))
+    (λ channels mode first f. (refl, refl))
+    (λ e d c w r. subst (λ m. (step e c .desk ≡ step m c .desk) × (step e c .reply ≡ step m c .reply)) r (refl, refl))
     (λ e d w r. subst
-    (λ m. SameState (viewOf (e .back)) (m .back) × IndexGivesPlaces (viewOf (e .back)) × (sentFrom (e .back .next) (e .queued) ≡ sentFrom (m .back .next) (m .queued)) × (e .returned ≡ m .returned))
-    r (same-state (e .back), λ k. refl, refl, refl))
+    (λ m. let v = deskView e in
+    SameState (v .back) (m .back) × IndexGivesPlaces (v .back) × (v .queued ≡ sentFrom (m .back .next) (m .queued)) × (v .returned ≡ m .returned) × (v .back .next ≡ nextNumber m % 2 ^ 64))
+    r (same-state (nextNumber e % 2 ^ 64) (e .back), λ k. refl, refl, refl, refl))

@@ -12,14 +12,14 @@ use lib.Ieee.{Float, lt, le, eq}
 use Rattle.event.specs.declared.Edit.{Edit}
 use Rattle.event.specs.declared.ReplayMode.{ReplayMode}
 use Rattle.event.specs.declared.ReplayMode.the-variants.{All, None}
-use Rattle.event.specs.Events.{rewound}
+use Rattle.event.specs.Events.{newEvent, rewound}
 use Rattle.floats.specs.Arithmetic.{_+ᵈ_, _-ᵈ_, _×ᵈ_, _÷ᵈ_, _<ᶠ_, _≤ᶠ_, zeroᶠ, oneᶠ, whole}
 use Rattle.ledger.specs.Calls as Calls
 use Rattle.ledger.specs.Lists.{numbers, has, editOf, editIn}
 use Rattle.ledger.specs.Ledger.{Ledger, held}
 use Rattle.ledger.specs.Refusals.{Check, refuses, firstOf, within, withinEnd, finiteSource, statedEnd, editEnd, tickEnd, blockEnd, missing, refusal, checks, pushChecks, editChecks}
 use Rattle.ledger.specs.Steps as Steps
-use Rattle.ledger.specs.Steps.{newEvent, pushedTime, enter, change, everything, accept, restart}
+use Rattle.ledger.specs.Steps.{pushedTime, enter, change, everything, accept, restart}
 use Rattle.ledger.specs.Refused.{AllPass, all-pass}
 use Rattle.ledger.specs.Sums.{eventSum-edit, eventSum-one, eventSum-rewound}
 use Rattle.ledger.specs.Conservation.{fourSum, heldSum-enter, eventSum-everything}

@@ -17,7 +17,7 @@ use Rattle.ledger.specs.Steps.{advance, setRate, accept}
 use Rattle.ledger.specs.Refused.{AllPass, all-pass}
 use Rattle.ledger.specs.Lawful as Ledgers
 use Rattle.ledger.specs.Lawful.{Lawful}
-use Rattle.desk.specs.Desk.{Message, push, edit, reset, BackCall, tick, block, rate, Call, front, back, backCall, Desk, pushesIn, editsIn, nextNumber, withBack, opened, drained, frontChecks, refusalOf, sends, acts, carriedOut, decide, step, run}
+use Rattle.desk.specs.Desk.{Message, push, edit, reset, BackCall, tick, block, rate, Call, front, back, backCall, Desk, pushesIn, editsIn, nextNumber, withBack, opened, drained, frontChecks, deskRefusal, sends, acts, carriedOut, decide, step, run}
 use Rattle.desk.specs.Lawful.{ownChecks, Passed, DeskLawful, deskOf, not-not, accept-lawful, pushes-first, edits-first, finished-lawful, restarted-lawful, drained-lawful, drained-empty, drained-free}
 
 -- ---- a desk with an empty queue
@@ -162,16 +162,16 @@ sends-lawful d m h w =
 
 -- ---- every call
 
-carriedOut-lawful : (d : Desk) (c : Call) → refusalOf d c ≡ none → DeskLawful d → DeskLawful (carriedOut d c .desk)
-unfolding carriedOut refusalOf
+carriedOut-lawful : (d : Desk) (c : Call) → deskRefusal d c ≡ none → DeskLawful d → DeskLawful (carriedOut d c .desk)
+unfolding carriedOut deskRefusal
 carriedOut-lawful d (front m) h w = sends-lawful d m h w
 carriedOut-lawful d (back c) h w = acts-lawful (drained d) c (drained-empty d) (drained-free d w c h) (drained-lawful d w)
 
 pub step-lawful : (d : Desk) (c : Call) → DeskLawful d → DeskLawful (step d c .desk)
 unfolding step decide
-step-lawful d c w = go (refusalOf d c) refl
+step-lawful d c w = go (deskRefusal d c) refl
   where
-    go : (o : Option ℕ) → refusalOf d c ≡ o → DeskLawful (decide o d c .desk)
+    go : (o : Option ℕ) → deskRefusal d c ≡ o → DeskLawful (decide o d c .desk)
     go (some k) h = w
     go none h = carriedOut-lawful d c h w
 

@@ -8,3 +8,4 @@ pub mod Partition
 pub mod ClaimByRelation
 pub mod DeskMeets
 pub mod CasesOfSlips
+pub mod CasesOfCalls

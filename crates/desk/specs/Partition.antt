@@ -24,7 +24,7 @@ use Rattle.ledger.specs.Sums.{numberSum, numberSum-append, numberSum-numbers, n
 use Rattle.ledger.specs.Conservation.{fourSum, accept-adds}
 use Rattle.ledger.specs.Partition as Ledgers
 use Rattle.ledger.specs.Partition.{is, times-is, count-up, once-or-never}
-use Rattle.desk.specs.Desk.{Message, push, edit, reset, BackCall, tick, block, rate, Call, front, back, Desk, pushesIn, nextNumber, withBack, opened, sendFinished, restarted, drain, drained, refusalOf, Outcome, sends, acts, carriedOut, decide, step, run}
+use Rattle.desk.specs.Desk.{Message, push, edit, reset, BackCall, tick, block, rate, Call, front, back, Desk, pushesIn, nextNumber, withBack, opened, sendFinished, restarted, drain, drained, deskRefusal, Outcome, sends, acts, carriedOut, decide, step, run}
 use Rattle.desk.specs.Claim.{acceptedOf, accepted}
 use Rattle.desk.specs.LetGo.{finished-sum, restarted-sum}
 use Rattle.desk.specs.Lawful.{deskOf, handled, handled-next, drained-empty}
@@ -213,7 +213,7 @@ back-adds d c =
 
 step-adds : (d : Desk) (c : Call) → Adds d (step d c)
 unfolding step decide carriedOut
-step-adds d c = go (refusalOf d c) c
+step-adds d c = go (deskRefusal d c) c
   where
     go : (o : Option ℕ) (c : Call) → Adds d (decide o d c)
     go (some k) c = record { weighs = λ u. omega arith; counts = omega arith; in-order = refl }

@@ -26,13 +26,14 @@ use Rattle.claim.specs.RefusalsAgree.{Agrees, tick-refused, block-refused, rate
 use Rattle.claim.specs.EngineCalls as EngineClaim
 use Rattle.claim.specs.Steps as Claim
 use Rattle.desk.specs.Desk as Plain
-use Rattle.desk.specs.Desk.{tick, block, rate, reset, back, Reply, done, Desk, withBack, sendFinished, refusalOf, acts, carriedOut, decide, step}
+use Rattle.desk.specs.Desk.{tick, block, rate, reset, back, Reply, done, Desk, withBack, sendFinished, deskRefusal, acts, carriedOut, decide, step}
 use Rattle.desk.specs.Lawful.{DeskLawful, accept-lawful, drained-lawful, drained-empty, drained-free}
 use Rattle.realseq.specs.declared.SequencerBackend.{SequencerBackend}
 use Rattle.realseq.specs.Handling as Handling
 use Rattle.realseq.specs.Handling.{pastSentBy, pastSent, drained}
-use Rattle.realseq.specs.Fronts.{refuses}
-use Rattle.realseq.specs.Backs.{accepts, withEngine, tickNo, ticks, tickOuts, blockNo, blocks, blockOuts, rates}
+use Rattle.realseq.specs.Answers.{refuses}
+use Rattle.realseq.specs.Backs.{withEngine, tickNo, ticks, tickOuts, blockNo, blocks, blockOuts, rates}
+use Rattle.realseq.specs.Answers.{accepts}
 use Rattle.desk_claim.specs.Related.{DeskRelated, plain-of, empty-related}
 use Rattle.desk_claim.specs.LettingGo.{past-related, restarted-related}
 use Rattle.desk_claim.specs.Draining.{drained-related}
@@ -85,7 +86,7 @@ module _ (d : SequencerBackend) (D : Desk) (w : DeskLawful D) (r : DeskRelated d
       (empty-related (drained d) (Plain.drained D) s l (drained d .returned) (Plain.drained D .returned) (drained-empty D) g h (g .returns)))
 
   pub keep-tick : (pool out : List Float) → Keeps (gives (ticks pool (length out) d) (tickOuts pool d out)) (step D (back (tick pool out)))
-  unfolding ticks tickOuts refusalOf carriedOut acts accept advance
+  unfolding ticks tickOuts deskRefusal carriedOut acts accept advance
   keep-tick pool out =
       by-refusal d D (back (tick pool out)) N X r
       (tick-refused (D .back) pool out (s .outputs) (s .time) (s .«sample_duration») (r .engine .plain .4) (r .engine .plain .0) (r .engine .plain .3)) refl carried
@@ -112,7 +113,7 @@ module _ (d : SequencerBackend) (D : Desk) (w : DeskLawful D) (r : DeskRelated d
           )
 
   pub keep-block : (n : ℕ) (pool out : List Float) → Keeps (gives (blocks pool n (length out) d) (blockOuts pool n d out)) (step D (back (block n pool out)))
-  unfolding blocks blockOuts refusalOf carriedOut acts accept advance
+  unfolding blocks blockOuts deskRefusal carriedOut acts accept advance
   keep-block n pool out =
       by-refusal d D (back (block n pool out)) N X r
       (block-refused (D .back) n pool out (s .outputs) (s .time) (s .«sample_duration») (r .engine .plain .4) (r .engine .plain .0) (r .engine .plain .3)) refl carried
@@ -139,7 +140,7 @@ module _ (d : SequencerBackend) (D : Desk) (w : DeskLawful D) (r : DeskRelated d
           )
 
   pub keep-rate : (x : Float) → Keeps (gives (rates d x) []) (step D (back (rate x)))
-  unfolding rates refusalOf carriedOut acts accept
+  unfolding rates deskRefusal carriedOut acts accept
   keep-rate x =
       let g = drained-related d D w r in
       let b = drained d .sequencer in
@@ -151,5 +152,5 @@ module _ (d : SequencerBackend) (D : Desk) (w : DeskLawful D) (r : DeskRelated d
       ))
 
   pub keep-restart : Keeps (gives (accepts (Handling.reset d)) []) (step D (back reset))
-  unfolding Handling.reset step refusalOf refusal checks firstOf decide carriedOut acts
+  unfolding Handling.reset step deskRefusal refusal checks firstOf decide carriedOut acts
   keep-restart = (restarted-related (drained d) (Plain.drained D) (drained-empty D) law (drained-related d D w r), refl)

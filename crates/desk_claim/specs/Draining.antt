@@ -7,12 +7,12 @@ use lib.ListN.{length}
 use Rattle.event.specs.declared.Edit.{Edit}
 use Rattle.event.specs.declared.Event.{Event}
 use Rattle.event.specs.declared.EventId.{EventId}
+use Rattle.event.specs.Events.{newEvent}
 use Rattle.ledger.specs.Ledger.{Ledger}
 use Rattle.ledger.specs.Refusals.{statedEnd}
-use Rattle.ledger.specs.Steps.{newEvent}
 use Rattle.desk.specs.Desk as Plain
 use Rattle.desk.specs.Desk.{push, edit, reset, Desk, pushesIn, drain}
-use Rattle.desk.specs.Claim.{isRelative, endRelative}
+use Rattle.ledger.specs.Calls.{isRelative, endRelative}
 use Rattle.desk.specs.Lawful as Laws
 use Rattle.desk.specs.Lawful.{DeskLawful, deskOf, handled-lawful, drain-lawful, drain-queued}
 use Rattle.realseq.specs.declared.SequencerBackend.{SequencerBackend}

@@ -8,17 +8,15 @@ use Rattle.ledger.specs.Calls as Calls
 use Rattle.sequencer.specs.Answers as Engine
 use Rattle.sequencer.specs.Creation.{created}
 use Rattle.claim.specs.View.{viewOf}
-use Rattle.desk.specs.Desk as Plain
-use Rattle.desk.specs.Desk.{push, edit, reset, tick, block, rate, Call, front, back, number, queued, done, refused, Reply}
+use Rattle.desk.specs.Desk.{push, edit, reset, tick, block, rate, Call, front, back, Reply}
 use Rattle.desk.specs.Claim.{DeskView, DeskEngine}
 use Rattle.realseq.specs.declared.SequencerBackend.{SequencerBackend}
 use Rattle.realseq.specs.declared.Outcome.{Outcome}
-use Rattle.realseq.specs.declared.Answer.{Answer}
-use Rattle.realseq.specs.declared.Answer.the-variants.{Number, Queued, Done, Refused}
 use Rattle.realseq.specs.Queues.{opened}
 use Rattle.realseq.specs.Handling as Handling
 use Rattle.realseq.specs.Fronts.{pushes, edits, resets}
-use Rattle.realseq.specs.Backs.{accepts, ticks, tickOuts, blocks, blockOuts, rates}
+use Rattle.realseq.specs.Backs.{ticks, tickOuts, blocks, blockOuts, rates}
+use Rattle.realseq.specs.Answers.{answerOf, accepts}
 use Rattle.desk_claim.specs.Ring.{listed}
 use Rattle.desk_claim.specs.ReturnQueue.{inQueue}
 use Rattle.desk_claim.specs.Related.{shown}
@@ -27,12 +25,6 @@ abbrev pub deskNew : (channels : ℕ) → ReplayMode → (first : ℕ) → Seque
 deskNew channels mode first =
     let o = created channels mode first in
     (opened (o .sequencer), Engine.answerOf (o .answer))
-
-abbrev pub answerOf : Answer → Plain.Answer
-answerOf (Number k) = number (k .0)
-answerOf Queued = queued
-answerOf Done = done
-answerOf (Refused k) = refused k
 
 -- the state after a call; its answer; and the output lent back, where one was lent
 abbrev pub gives : Outcome → (out : List Float) → SequencerBackend × Reply

@@ -11,13 +11,13 @@ use lib.ListN.{length, length-append}
 use Rattle.event.specs.declared.Fade.{Fade}
 use Rattle.event.specs.declared.Source.{Source}
 use Rattle.floats.specs.Arithmetic.{_-ᵈ_}
+use Rattle.event.specs.Events.{newEvent}
 use Rattle.ledger.specs.Calls.{PushKind, EditKind}
 use Rattle.ledger.specs.Refusals.{firstOf, statedEnd}
-use Rattle.ledger.specs.Steps.{newEvent}
 use Rattle.sequencer.specs.Parts.{withNext}
 use Rattle.desk.specs.Desk as Plain
-use Rattle.desk.specs.Desk.{push, edit, reset, front, Reply, number, Desk, pushesIn, nextNumber, frontChecks, refusalOf, sends, carriedOut, step}
-use Rattle.desk.specs.Claim.{isRelative}
+use Rattle.desk.specs.Desk.{push, edit, reset, front, Reply, number, Desk, pushesIn, nextNumber, frontChecks, deskRefusal, sends, carriedOut, step}
+use Rattle.ledger.specs.Calls.{isRelative}
 use Rattle.desk.specs.Lawful.{DeskLawful}
 use Rattle.desk.specs.LawfulCalls.{pushes-last, sends-lawful}
 use Rattle.realseq.specs.declared.SequencerBackend.{SequencerBackend}
@@ -26,7 +26,8 @@ use Rattle.realseq.specs.declared.Answer.the-variants.{Number, Queued}
 use Rattle.realseq.specs.declared.queues.Message.{Message}
 use Rattle.realseq.specs.declared.queues.Message.the-variants.{Reset}
 use Rattle.realseq.specs.Queues.{pushed, emptied}
-use Rattle.realseq.specs.Fronts.{queuedWith, numbered, refuses, pushRefused, pushMessage, sendsPush, pushes, editRefused, sendsEdit, edits, resets}
+use Rattle.realseq.specs.Fronts.{queuedWith, numbered, pushRefused, pushMessage, sendsPush, pushes, editRefused, sendsEdit, edits, resets}
+use Rattle.realseq.specs.Answers.{refuses}
 use Rattle.desk_claim.specs.Ring as Ring
 use Rattle.desk_claim.specs.Ring.{queued-push}
 use Rattle.desk_claim.specs.ReturnQueue.{returns-emptied}
@@ -64,7 +65,7 @@ module _ (d : SequencerBackend) (D : Desk) (w : DeskLawful D) (r : DeskRelated d
 
   module _ (kind : PushKind) (start end : Float) (curve : Fade) (fade-in fade-out : Float) (source : Source) where
     pub keep-push : Keeps (gives (pushes kind d start end curve fade-in fade-out source) []) (step D (front (push kind start end fade-in fade-out curve source)))
-    unfolding pushes sendsPush queuedWith numbered refusalOf carriedOut sends
+    unfolding pushes sendsPush queuedWith numbered deskRefusal carriedOut sends
     keep-push = by-refusal d D (front M) N X r (push-agrees d D w r kind start end fade-in fade-out curve source) refl carried
       where
         M : Plain.Message
@@ -94,7 +95,7 @@ module _ (d : SequencerBackend) (D : Desk) (w : DeskLawful D) (r : DeskRelated d
 
   module _ (kind : EditKind) (k : ℕ) (end fade-out : Float) where
     pub keep-edit : Keeps (gives (edits kind d (record { 0 = k }) end fade-out) []) (step D (front (edit kind k end fade-out)))
-    unfolding sendsEdit queuedWith refusalOf carriedOut sends
+    unfolding sendsEdit queuedWith deskRefusal carriedOut sends
     keep-edit = by-refusal d D (front M) N X r (edit-agrees d D w r kind k end fade-out) refl carried
       where
         M : Plain.Message
@@ -118,7 +119,7 @@ module _ (d : SequencerBackend) (D : Desk) (w : DeskLawful D) (r : DeskRelated d
   by-number false x = refl
 
   pub keep-reset : Keeps (gives (resets d) []) (step D (front reset))
-  unfolding resets queuedWith refusalOf carriedOut sends
+  unfolding resets queuedWith deskRefusal carriedOut sends
   keep-reset = subst (λ (o : Outcome). Keeps (gives o []) (step D (front reset))) (sym (by-number (leb 64 (d .messages .count)) S)) (by-refusal d D (front reset) N X r (reset-agrees d D w r) refl carried)
     where
       N : ℕ

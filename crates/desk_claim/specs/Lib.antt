@@ -9,3 +9,4 @@ pub mod Refusals
 pub mod Fronts
 pub mod Backs
 pub mod Theorem
+pub mod Refused

@@ -13,12 +13,13 @@ use Rattle.event.specs.declared.EventId.{EventId}
 use Rattle.event.specs.declared.Fade.{Fade}
 use Rattle.event.specs.declared.Source.{Source}
 use Rattle.floats.specs.Arithmetic.{_<ᶠ_}
+use Rattle.event.specs.Events.{newEvent}
 use Rattle.ledger.specs.Calls.{PushKind, absolute, relative, byDuration, EditKind, absoluteEnd, relativeEnd}
 use Rattle.ledger.specs.Lists.{has}
 use Rattle.ledger.specs.Ledger.{Ledger, held}
 use Rattle.ledger.specs.Refusals.{statedEnd, editEnd}
 use Rattle.ledger.specs.Steps as Steps
-use Rattle.ledger.specs.Steps.{newEvent, pushedTime, enter, accept}
+use Rattle.ledger.specs.Steps.{pushedTime, enter, accept}
 use Rattle.lists.specs.declared.Found.{Found}
 use Rattle.lists.specs.declared.Found.the-variants.{At, Nothing}
 use Rattle.lists.specs.Index.{foundId}
@@ -31,7 +32,7 @@ use Rattle.claim.specs.Entering.{related-push-event}
 use Rattle.claim.specs.Changing.{related-change}
 use Rattle.desk.specs.Desk as Plain
 use Rattle.desk.specs.Desk.{push, edit, reset, pushesIn}
-use Rattle.desk.specs.Claim.{isRelative, endRelative}
+use Rattle.ledger.specs.Calls.{isRelative, endRelative}
 use Rattle.desk.specs.Lawful.{DeskLawful, deskOf, handled, handled-next, pushes-first}
 use Rattle.realseq.specs.declared.SequencerBackend.{SequencerBackend}
 use Rattle.realseq.specs.declared.queues.Message.{Message}

@@ -19,7 +19,7 @@ use Rattle.ledger.specs.Ledger.{held}
 use Rattle.ledger.specs.Refusals.{refuses, firstOf, within, withinEnd, finiteSource, statedEnd}
 use Rattle.refusals.specs.Refusals.{pushRefusal, editLimits}
 use Rattle.claim.specs.RefusalsAgree.{Agrees, inOrder, agrees, spent}
-use Rattle.desk.specs.Desk.{push, edit, reset, Call, Reply, refused, Desk, Outcome, pushesIn, editsIn, nextNumber, frontChecks, refusalOf, carriedOut, lentOut, decide, step}
+use Rattle.desk.specs.Desk.{push, edit, reset, Call, Reply, refused, Desk, Outcome, pushesIn, editsIn, nextNumber, frontChecks, deskRefusal, carriedOut, lentOut, decide, step}
 use Rattle.desk.specs.Lawful.{DeskLawful}
 use Rattle.realseq.specs.declared.SequencerBackend.{SequencerBackend}
 use Rattle.realseq.specs.Queues.{tallied}
@@ -36,12 +36,12 @@ abbrev pub refusedReply : ℕ → Call → Reply
 refusedReply k c = record { answer = refused k; out = lentOut c }
 
 -- X is the engine's call, by whether its number of a refusal is 0
-pub by-refusal : (d : SequencerBackend) (D : Desk) (c : Call) (n : ℕ) (X : Bool → SequencerBackend × Reply) → DeskRelated d D → Agrees n (refusalOf D c)
-    → X false ≡ (d, refusedReply n c) → (refusalOf D c ≡ none → Keeps (X true) (carriedOut D c)) → Keeps (X (eqb n 0)) (step D c)
+pub by-refusal : (d : SequencerBackend) (D : Desk) (c : Call) (n : ℕ) (X : Bool → SequencerBackend × Reply) → DeskRelated d D → Agrees n (deskRefusal D c)
+    → X false ≡ (d, refusedReply n c) → (deskRefusal D c ≡ none → Keeps (X true) (carriedOut D c)) → Keeps (X (eqb n 0)) (step D c)
 unfolding step decide
-by-refusal d D c n X r h f t = go (refusalOf D c) refl h
+by-refusal d D c n X r h f t = go (deskRefusal D c) refl h
   where
-    go : (o : Option ℕ) → refusalOf D c ≡ o → Agrees n o → Keeps (X (eqb n 0)) (decide o D c)
+    go : (o : Option ℕ) → deskRefusal D c ≡ o → Agrees n o → Keeps (X (eqb n 0)) (decide o D c)
     go none q h = subst (λ (b : Bool). Keeps (X b) (carriedOut D c)) (sym (eq-eqb n 0 h)) (t q)
     go (some k) q h =
         let turnedDown : Outcome = record { desk = D; reply = refusedReply k c } in

@@ -9,15 +9,16 @@ use lib.ListN.{length}
 use Rattle.event.specs.declared.Edit.{Edit}
 use Rattle.event.specs.declared.Event.{Event}
 use Rattle.event.specs.declared.EventId.{EventId}
+use Rattle.event.specs.Events.{newEvent}
 use Rattle.ledger.specs.Ledger.{Ledger}
 use Rattle.ledger.specs.Refusals.{statedEnd}
-use Rattle.ledger.specs.Steps.{newEvent}
 use Rattle.sequencer.specs.declared.Sequencer.{Sequencer}
 use Rattle.sequencer.specs.Parts.{withNext}
 use Rattle.claim.specs.Related.{Related}
 use Rattle.desk.specs.Desk as Plain
 use Rattle.desk.specs.Desk.{push, edit, reset, Desk, pushesIn, editsIn, nextNumber}
-use Rattle.desk.specs.Claim.{Sent, event, change, restart, isRelative, endRelative, sentFrom}
+use Rattle.desk.specs.Claim.{Sent, event, change, restart, sentFrom}
+use Rattle.ledger.specs.Calls.{isRelative, endRelative}
 use Rattle.desk.specs.Lawful.{deskOf, pushes-first, edits-first}
 use Rattle.realseq.specs.declared.SequencerBackend.{SequencerBackend}
 use Rattle.realseq.specs.declared.queues.Message.{Message}

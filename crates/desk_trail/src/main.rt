@@ -1,14 +1,8 @@
 // Plays a desk script of at most 65,536 bytes from standard input (oracle/README.md: a tape whose kinds 01 to 05 are calls of the front and 06 to 09 of the back, with 10 for the front's reset and 11 to 13 for what is lent).
-// Each record prints its lines as on a tape, then how many messages are queued and numbers returned, each with its digest.
+// Each record prints its lines as on a tape, then its answer and the whole state of the back and the queues (crate state_listing).
 ghost use Prim.Native.Nat.{_≤_};
-use event::Event;
-use event::Fade;
-use event::Source;
 use realseq::Answer;
-use realseq::Message;
-use realseq::Messages;
 use realseq::Outcome;
-use realseq::Returned;
 use realseq::SequencerBackend;
 use sequencer::Counts;
 use sequencer::Sequencer;
@@ -17,162 +11,12 @@ use tape::reader::Cursor;
 use tape::reader::PushRecord;
 use tape::reader::Read;
 
-// ---- digests
-
-// The digest with one more number in it.
-fn mixed(digest: u64, value: u64) -> u64 {
-    std::num::wrapping_add_u64((digest << 7) ^ (digest >> 57), value)
-}
-
-fn mixed_time(digest: u64, x: f64) -> u64 {
-    mixed(digest, float_bits::f64_to_bits(x))
-}
-
-fn mixed_sample(digest: u64, x: f32) -> u64 {
-    mixed(digest, float_bits::f32_to_bits(x) as u64)
-}
-
-fn curve_number(fade: Fade) -> u64 {
-    match fade {
-        Fade::Power => 0,
-        Fade::Smooth => 1,
-    }
-}
-
-fn mixed_source(digest: u64, source: Source) -> u64 {
-    match source {
-        Source::Held(level) => mixed(mixed_sample(mixed(digest, 0), level), 0),
-        Source::Ramp(value, step) => mixed_sample(mixed_sample(mixed(digest, 1), value), step),
-        Source::Clip(offset, length) => {
-            mixed(mixed(mixed(digest, 2), offset as u64), length as u64)
-        }
-    }
-}
-
-fn mixed_event(digest: u64, event: Event) -> u64 {
-    let id = event.id;
-    let d = mixed(digest, id.0);
-    let d = mixed_time(mixed_time(d, event.start_time), event.end_time);
-    let d = mixed_time(mixed_time(d, event.fade_in), event.fade_out);
-    let fade = event.fade_ease;
-    let d = mixed(d, curve_number(fade));
-    let unit = event.unit;
-    let source = unit.source;
-    mixed_source(d, source)
-}
-
-fn mixed_message(digest: u64, message: Message) -> u64 {
-    match message {
-        Message::Reset => mixed(digest, 0),
-        Message::Push(event) => mixed_event(mixed(digest, 1), event),
-        Message::PushRelative(event) => mixed_event(mixed(digest, 2), event),
-        Message::Edit(id, edit) => {
-            let d = mixed(mixed(digest, 3), id.0);
-            mixed_time(mixed_time(d, edit.end_time), edit.fade_out)
-        }
-        Message::EditRelative(id, edit) => {
-            let d = mixed(mixed(digest, 4), id.0);
-            mixed_time(mixed_time(d, edit.end_time), edit.fade_out)
-        }
-    }
-}
-
-fn messages_digest(q: Messages) -> u64 {
-    let n = q.count;
-    let first = q.first % 64;
-    let mut digest: u64 = 0;
-    let mut i: usize = 0;
-    while i < 64 {
-        if n <= i {
-            break;
-        }
-        let at = (first + i) % 64;
-        let slot = q.slots[at];
-        let message = slot.message;
-        digest = mixed_message(digest, message);
-        i = i + 1;
-    }
-    digest
-}
-
-fn returned_digest(r: Returned) -> u64 {
-    let n = r.count;
-    let mut digest: u64 = 0;
-    let mut i: usize = 0;
-    while i < 64 {
-        if n <= i {
-            break;
-        }
-        let id = r.ids[i];
-        digest = mixed(digest, id.0);
-        i = i + 1;
-    }
-    digest
-}
-
-// ---- what is printed
-
-fn list_counts(kind: u8, refusal: u64, counts: Counts) {
-    let mut text = [0u8; 128];
-    let n = tape::text::counts_line(
-        kind,
-        refusal,
-        counts.waiting as u64,
-        counts.sounding as u64,
-        counts.finished as u64,
-        counts.let_go,
-        &mut text,
-    );
-    if n <= 128 {
-        io::write_all(1, &text[..n]);
-    }
-}
-
-// A line for each channel.
-fn list_samples(samples: &[f32], channels: usize, each: usize, stride: usize) {
-    let mut text = [0u8; 576];
-    let mut left = channels;
-    let mut from: usize = 0;
-    while left > 0 {
-        if samples.len() <= from {
-            return;
-        }
-        if samples.len() - from < each {
-            return;
-        }
-        if samples.len() - from < stride {
-            return;
-        }
-        let n = tape::text::samples_line(&samples[from..from + each], &mut text);
-        if 576 < n {
-            return;
-        }
-        io::write_all(1, &text[..n]);
-        from = from + stride;
-        left = left - 1;
-    }
-}
-
-fn list_queue(count: usize, digest: u64) {
-    io::print_decimal(1, count as u64);
-    io::write_all(1, b" ");
-    io::print_hex(1, digest, 16);
-}
-
-fn list_queues(d: SequencerBackend) {
-    let q = d.messages;
-    list_queue(q.count, messages_digest(q));
-    io::write_all(1, b" ");
-    let r = d.returned;
-    list_queue(r.count, returned_digest(r));
-    io::write_all(1, b"\n");
-}
-
 // ---- calls
 
-// The desk after a call, the refusal or 0, and what an accepted tick or block has left in the output.
+// The desk after a call, its answer, the refusal or 0, and what an accepted tick or block has left in the output.
 struct Played {
     backend: SequencerBackend,
+    answer: Answer,
     refusal: u64,
     channels: usize,
     each: usize,
@@ -188,12 +32,12 @@ fn refusal(answer: Answer) -> u64 {
     }
 }
 
-fn silent(r: Outcome) -> Played {
-    let answer = r.answer;
+// A call that has no samples.
+fn quiet(backend: SequencerBackend, answer: Answer) -> Played {
     let n = refusal(answer);
-    let backend = r.backend;
     Played {
         backend,
+        answer,
         refusal: n,
         channels: 0,
         each: 0,
@@ -201,26 +45,20 @@ fn silent(r: Outcome) -> Played {
     }
 }
 
-fn sounding(r: Outcome, channels: usize, each: usize, stride: usize) -> Played {
+fn silent(r: Outcome) -> Played {
     let answer = r.answer;
-    let n = refusal(answer);
     let backend = r.backend;
-    if n != 0 {
-        return Played {
-            backend,
-            refusal: n,
-            channels: 0,
-            each: 0,
-            stride: 0,
-        };
+    quiet(backend, answer)
+}
+
+fn sounding(r: Outcome, channels: usize, each: usize, stride: usize) -> Played {
+    let mut p = silent(r);
+    if p.refusal == 0 {
+        p.channels = channels;
+        p.each = each;
+        p.stride = stride;
     }
-    Played {
-        backend,
-        refusal: 0,
-        channels,
-        each,
-        stride,
-    }
+    p
 }
 
 fn outputs(d: SequencerBackend) -> usize {
@@ -260,66 +98,33 @@ fn process(
 fn create(channels: u8, mode: event::ReplayMode, first: u64) -> Played {
     let made = Sequencer::new(channels as usize, mode, first);
     let answer = made.answer;
-    let n = created(answer);
     let s = made.sequencer;
-    Played {
-        backend: SequencerBackend::new(s),
-        refusal: n,
-        channels: 0,
-        each: 0,
-        stride: 0,
-    }
+    quiet(SequencerBackend::new(s), created(answer))
 }
 
-fn created(answer: sequencer::Answer) -> u64 {
+// A creation is refused or done.
+fn created(answer: sequencer::Answer) -> Answer {
     match answer {
-        sequencer::Answer::Refused(n) => n,
-        sequencer::Answer::Number(_) => 0,
-        sequencer::Answer::Applied => 0,
-        sequencer::Answer::Past => 0,
-        sequencer::Answer::Stored => 0,
-        sequencer::Answer::Done => 0,
+        sequencer::Answer::Refused(n) => Answer::Refused(n),
+        sequencer::Answer::Number(_) => Answer::Done,
+        sequencer::Answer::Applied => Answer::Done,
+        sequencer::Answer::Past => Answer::Done,
+        sequencer::Answer::Stored => Answer::Done,
+        sequencer::Answer::Done => Answer::Done,
     }
 }
 
 fn push(d: SequencerBackend, kind: u8, p: PushRecord) -> Outcome {
-    let fade = p.fade_ease;
+    let start = p.start_time;
+    let end = p.end_time;
+    let ease = p.fade_ease;
+    let fade_in = p.fade_in;
+    let fade_out = p.fade_out;
     let source = p.source;
     match kind {
-        1 => d.push(
-            p.start_time,
-            p.end_time,
-            fade,
-            p.fade_in,
-            p.fade_out,
-            source,
-        ),
-        2 => d.push_relative(
-            p.start_time,
-            p.end_time,
-            fade,
-            p.fade_in,
-            p.fade_out,
-            source,
-        ),
-        _ => d.push_duration(
-            p.start_time,
-            p.end_time,
-            fade,
-            p.fade_in,
-            p.fade_out,
-            source,
-        ),
-    }
-}
-
-fn reset(d: SequencerBackend) -> Played {
-    Played {
-        backend: d.reset(),
-        refusal: 0,
-        channels: 0,
-        each: 0,
-        stride: 0,
+        1 => d.push(start, end, ease, fade_in, fade_out, source),
+        2 => d.push_relative(start, end, ease, fade_in, fade_out, source),
+        _ => d.push_duration(start, end, ease, fade_in, fade_out, source),
     }
 }
 
@@ -349,7 +154,7 @@ fn play(d: SequencerBackend, call: Call, pool: &[f32], samples: &mut [f32]) -> P
             let length = 64 * least(outputs(d), 8);
             process(d, n as usize, length, pool, samples)
         }
-        Call::Reset => reset(d),
+        Call::Reset => quiet(d.reset(), Answer::Done),
         Call::SetSampleRate(rate) => silent(d.set_sample_rate(rate)),
     }
 }
@@ -410,13 +215,7 @@ fn play_script(
         16 => silent(d.queue_reset()),
         17 => tick(d, short(bs, 1), pool, samples),
         18 => process(d, byte_at(bs, 1) as usize, short(bs, 2), pool, samples),
-        _ => Played {
-            backend: d,
-            refusal: 0,
-            channels: 0,
-            each: 0,
-            stride: 0,
-        },
+        _ => quiet(d, Answer::Done),
     }
 }
 
@@ -426,26 +225,25 @@ fn counts(d: SequencerBackend) -> Counts {
 }
 
 fn stop(r: Read, d: SequencerBackend) {
-    match r {
-        Read::Refused { kind, number } => list_counts(kind, number as u64, counts(d)),
-        Read::End => {}
-        Read::Record {
-            kind: _,
-            call: _,
-            next: _,
-        } => {}
-    }
+    listing_out::stop(r, counts(d))
 }
 
-// Lists an applied record; false where the listing ends there.
+// Lists an applied record and the state; false where the listing ends there.
 fn list(kind: u8, p: Played, samples: &[f32]) -> bool {
     let d = p.backend;
-    list_counts(kind, p.refusal, counts(d));
-    if p.refusal == 1 {
+    if !listing_out::list(
+        kind,
+        p.refusal,
+        counts(d),
+        samples,
+        p.channels,
+        p.each,
+        p.stride,
+    ) {
         return false;
     }
-    list_samples(samples, p.channels, p.each, p.stride);
-    list_queues(d);
+    let answer = p.answer;
+    state_listing::list_desk(kind, answer, d);
     true
 }
 
@@ -485,7 +283,7 @@ fn run(script: &[u8], whole: &[f32]) {
                 return;
             }
             if script.len() - at < size {
-                list_counts(kind, 15, counts(d));
+                listing_out::list_counts(kind, 15, counts(d));
                 return;
             }
             let bs = &script[at..];

@@ -1,12 +1,14 @@
--- Events: their order in the waiting heap, an edit applied, and a rewound source.
+-- Events: a new one, their order in the waiting heap, an edit applied, and a rewound source.
 use mathlib.Core.Bool.{Bool}
 use Prim.Native.Nat.{ℕ}
-use lib.Ieee.{nan}
+use lib.Ieee.{Float, nan}
 use Rattle.event.specs.declared.Event.{Event}
 use Rattle.event.specs.declared.Edit.{Edit}
 use Rattle.event.specs.declared.Unit.{Unit}
 use Rattle.event.specs.declared.StoredEdit.{StoredEdit}
 use Rattle.event.specs.declared.ReplayMode.{ReplayMode}
+use Rattle.event.specs.declared.Fade.{Fade}
+use Rattle.event.specs.declared.Source.{Source}
 use Rattle.event.specs.declared.Source.the-variants.{Held}
 use Rattle.event.specs.declared.Fade.the-variants.{Power}
 use Rattle.event.specs.Sources.{atStart}
@@ -19,14 +21,26 @@ numberOf e = e .id .0
 abbrev pub earlier : Event → Event → Bool
 earlier a b = sooner (a .«start_time») (numberOf a) (b .«start_time») (numberOf b)
 
+-- an event of number k, its source at its beginning
+abbrev pub newEvent : (start end fade-in fade-out : Float) → Fade → Source → (number : ℕ) → Event
+newEvent start end fade-in fade-out curve source k = record {
+  «start_time» = start;
+  «end_time» = end;
+  «fade_in» = fade-in;
+  «fade_out» = fade-out;
+  «fade_ease» = curve;
+  unit = atStart source;
+  id = record { 0 = k };
+}
+
 -- an edit replaces end and fade-out
 abbrev pub editedBy : Edit → Event → Event
 editedBy d e = record {
   «start_time» = e .«start_time»;
   «end_time» = d .«end_time»;
-  «fade_ease» = e .«fade_ease»;
   «fade_in» = e .«fade_in»;
   «fade_out» = d .«fade_out»;
+  «fade_ease» = e .«fade_ease»;
   unit = e .unit;
   id = e .id;
 }
@@ -36,9 +50,9 @@ abbrev pub withUnit : Unit → Event → Event
 withUnit u e = record {
   «start_time» = e .«start_time»;
   «end_time» = e .«end_time»;
-  «fade_ease» = e .«fade_ease»;
   «fade_in» = e .«fade_in»;
   «fade_out» = e .«fade_out»;
+  «fade_ease» = e .«fade_ease»;
   unit = u;
   id = e .id;
 }
@@ -52,9 +66,9 @@ abbrev pub blank : Event
 blank = record {
   «start_time» = nan;
   «end_time» = nan;
-  «fade_ease» = Power;
   «fade_in» = nan;
   «fade_out» = nan;
+  «fade_ease» = Power;
   unit = record { source = Held nan; value = nan; place = 0 };
   id = record { 0 = 0 };
 }

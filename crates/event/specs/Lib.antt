@@ -3,3 +3,4 @@ pub mod Fades
 pub mod Sources
 pub mod Events
 pub mod Numbers
+pub mod Cases

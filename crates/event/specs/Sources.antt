@@ -60,6 +60,3 @@ pub source-stays : (u : Unit) (k : ℕ) → advancedBy u k .source ≡ u .source
 unfolding steps
 source-stays u zero = refl
 source-stays u (suc k) = source-stays (advanced u) k ∙ same-source (u .source) u
-
-pub reset-anywhere : (u : Unit) (k : ℕ) → atStart (advancedBy u k .source) ≡ atStart (u .source)
-reset-anywhere u k = ap atStart (source-stays u k)

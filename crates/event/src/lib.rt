@@ -1,6 +1,6 @@
 // Sources, fades and events: the data of src/sequencer.rs of fundsp. A source stands for its `Box<dyn AudioUnit>`.
 ghost use mathlib.Core.Path.{_≡_};
-ghost use Rattle.event.specs.Events.{editedBy, rewound, earlier};
+ghost use Rattle.event.specs.Events.{newEvent, editedBy, rewound, earlier};
 ghost use Rattle.event.specs.Fades.{curve};
 ghost use Rattle.event.specs.Sources.{firstValue, atStart, sampleOf, advanced};
 ghost use Rattle.floats.specs.Sooner.{sooner};
@@ -140,9 +140,9 @@ fn is_sooner(a: f64, i: u64, b: f64, j: u64) -> bool
 pub struct Event {
     pub start_time: f64,
     pub end_time: f64,
-    pub fade_ease: Fade,
     pub fade_in: f64,
     pub fade_out: f64,
+    pub fade_ease: Fade,
     pub unit: Unit,
     pub id: EventId,
 }
@@ -160,6 +160,29 @@ pub struct StoredEdit {
 }
 
 impl Event {
+    // An event whose source is at its beginning.
+    pub fn new(
+        start_time: f64,
+        end_time: f64,
+        fade_in: f64,
+        fade_out: f64,
+        fade_ease: Fade,
+        source: Source,
+        id: EventId,
+    ) -> Event
+        ensures { λ r. ⌜ r ≡ newEvent «start_time» «end_time» «fade_in» «fade_out» «fade_ease» source (id .0) ⌝ }
+    {
+        Event {
+            start_time: start_time,
+            end_time: end_time,
+            fade_in: fade_in,
+            fade_out: fade_out,
+            fade_ease: fade_ease,
+            unit: Unit::new(source),
+            id: id,
+        }
+    }
+
     // The event with the edit's end and fade-out.
     pub fn edited(mut self, edit: Edit) -> Event
         ensures { λ r. ⌜ r ≡ editedBy edit self ⌝ }
@@ -180,9 +203,9 @@ impl Event {
         Event {
             start_time: self.start_time,
             end_time: self.end_time,
-            fade_ease: fade_ease,
             fade_in: self.fade_in,
             fade_out: self.fade_out,
+            fade_ease: fade_ease,
             unit: unit,
             id: id,
         }

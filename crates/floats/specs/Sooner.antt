@@ -80,9 +80,6 @@ by-no x i y j r = go (sooner x i y j) refl
     go false h = refl
 
 -- ---- the laws
-pub sooner-irreflexive : (x : Float) (i : ℕ) → sooner x i x i ≡ false
-sooner-irreflexive x i = by-no x i x i (totalLess-irreflexive x, λ z. omega arith)
-
 pub not-sooner-transitive : (x : Float) (i : ℕ) (y : Float) (j : ℕ) (z : Float) (k : ℕ) → sooner y j x i ≡ false → sooner z k y j ≡ false → sooner z k x i ≡ false
 not-sooner-transitive x i y j z k p q =
     let a = denies y j x i p in

@@ -296,16 +296,3 @@ ordered-greater x y p q = ap (λ (b : Bool). cond b Less (cond (totalLess y x) G
 pub ordered-equal : (x y : Float) → totalLess x y ≡ false → totalLess y x ≡ false → ordered x y ≡ Equal
 unfolding ordered
 ordered-equal x y p q = ap (λ (b : Bool). cond b Less (cond (totalLess y x) Greater Equal)) p ∙ ap (λ (b : Bool). cond b Greater Equal) q
-
--- Equal exactly where the two are the same data
-pub equal-same : (r : Format) (x y : Float) → T (fits r x) → T (fits r y) → ordered x y ≡ Equal → x ≡ y
-unfolding ordered
-equal-same r x y f g h = go (totalLess x y) (totalLess y x) refl refl h
-  where
-    go : (p q : Bool) → totalLess x y ≡ p → totalLess y x ≡ q → cond p Less (cond q Greater Equal) ≡ Equal → x ≡ y
-    go true q a b h = absurd (let z : _≡_ {A = ℕ} 0 1 = cc in lt-irrefl 0 (omega arith))
-    go false true a b h = absurd (let z : _≡_ {A = ℕ} 0 1 = cc in lt-irrefl 0 (omega arith))
-    go false false a b h = totalLess-connected r x y f g a b
-
-pub same-equal : (x : Float) → ordered x x ≡ Equal
-same-equal x = ordered-equal x x (totalLess-irreflexive x) (totalLess-irreflexive x)

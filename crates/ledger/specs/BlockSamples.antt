@@ -28,42 +28,38 @@ pub record Span : Type 0 where
 
 -- s = 0 if start ≤ t, else index((start - t) × r), at most n
 unfoldable pub firstPlace : Span → Event → ℕ
-unfolding le sub mul index
 firstPlace b e = cond (e .«start_time» ≤ᶠ b .clock) 0 (min (b .size) (index ((e .«start_time» -ᵈ b .clock) ×ᵈ b .rate)))
 
 -- z = n if end ≥ e, else index((end - t) × r), at most n
 unfoldable pub endPlace : Span → Event → ℕ
-unfolding le sub mul index
 endPlace b e = cond (b .upto ≤ᶠ e .«end_time») (b .size) (min (b .size) (index ((e .«end_time» -ᵈ b .clock) ×ᵈ b .rate)))
 
 -- ---- The fades, as in the Rust's `fade_in` and `fade_out`: their places count from the block's edge, and are used in the scratch.
 
--- A run with its places from `from` up to, not including, `to` multiplied by the curve, at `phase` and then one `step` further for each. A rising fade takes the curve at the phase, a falling one at 1 - phase.
+-- A run times the curve, at `phase` and then one `step` further for each sample. A rising fade takes the curve at the phase, a falling one at 1 - phase.
+unfoldable pub fadedAll : Fade → (rising : Bool) → (phase step : Float) → List Float → List Float
+fadedAll c rising phase step [] = []
+fadedAll c rising phase step (x ∷ l) = x ×ˢ curve c (cond rising phase (oneᶠ -ˢ phase)) ∷ fadedAll c rising (phase +ˢ step) step l
+
+-- A run with its places from `from` up to, not including, `to` so faded. Where `to` is not above `from` it stays as it is.
 unfoldable pub faded : Fade → (rising : Bool) → (from to : ℕ) → (phase step : Float) → List Float → List Float
-unfolding add sub mul curve
-faded c rising from to phase step [] = []
-faded c rising (suc from) to phase step (x ∷ l) = x ∷ faded c rising from (to - 1) phase step l
-faded c rising zero zero phase step (x ∷ l) = x ∷ l
-faded c rising zero (suc to) phase step (x ∷ l) =
-    x ×ˢ curve c (cond rising phase (oneᶠ -ˢ phase)) ∷ faded c rising zero to (phase +ˢ step) step l
+faded c rising from to phase step l =
+    take from l ++ (fadedAll c rising phase step (take (to - from) (drop from l)) ++ drop (to - from) (drop from l))
 
 -- where a fade-in ends: z if that is at the block's end or later, else index((start + fade-in - t) / d), at most 64
 unfoldable pub fadeInPlace : Span → (z : ℕ) → Event → ℕ
-unfolding le add sub div index
 fadeInPlace b z e =
     let top = e .«start_time» +ᵈ e .«fade_in» in
     cond (b .upto ≤ᶠ top) z (min 64 (index ((top -ᵈ b .clock) ÷ᵈ b .duration)))
 
 -- where a fade-out starts: 0 if that is at t or before, else index((end - fade-out - t) / d), at most 64
 unfoldable pub fadeOutPlace : Span → Event → ℕ
-unfolding le sub div index
 fadeOutPlace b e =
     let bottom = e .«end_time» -ᵈ e .«fade_out» in
     cond (bottom ≤ᶠ b .clock) 0 (min 64 (index ((bottom -ᵈ b .clock) ÷ᵈ b .duration)))
 
 -- `fade_in`, from scratch place 0 with the phase of block place s
 unfoldable pub runFadedIn : Span → (s z : ℕ) → Event → List Float → List Float
-unfolding add mul div lt delerped narrowed round whole faded fadeInPlace
 runFadedIn b s z e l =
     let top = e .«start_time» +ᵈ e .«fade_in» in
     cond (zeroᶠ <ᶠ e .«fade_in» && b .clock <ᶠ top)
@@ -74,7 +70,6 @@ runFadedIn b s z e l =
 
 -- `fade_out`, from its place up to z; one that starts after z fades nothing
 unfoldable pub runFadedOut : Span → (z : ℕ) → Event → List Float → List Float
-unfolding add sub mul div lt delerped narrowed round whole faded fadeOutPlace
 runFadedOut b z e l =
     let bottom = e .«end_time» -ᵈ e .«fade_out» in
     let i = fadeOutPlace b e in
@@ -92,28 +87,24 @@ fadedRun pool b s z e = runFadedOut b z e (runFadedIn b s z e (given pool (e .un
 
 -- a run added to a channel from place s on
 unfoldable pub addAt : (s : ℕ) → (run channel : List Float) → List Float
-unfolding add
 addAt s run [] = []
 addAt (suc s) run (x ∷ l) = x ∷ addAt s run l
 addAt zero [] (x ∷ l) = x ∷ l
 addAt zero (y ∷ run) (x ∷ l) = (x +ˢ y) ∷ addAt zero run l
 
 unfoldable pub channelAfter : (pool : List Float) → Span → Event → (channel : List Float) → List Float
-unfolding add ofBits made steps firstPlace endPlace runFadedIn runFadedOut addAt
 channelAfter pool b e channel =
     let s = firstPlace b e in
     let z = endPlace b e in
     cond (ltb s z) (addAt s (fadedRun pool b s z e) channel) channel
 
 unfoldable pub scratchAfter : (pool : List Float) → Span → Event → (scratch : List Float) → List Float
-unfolding add ofBits made steps firstPlace endPlace runFadedIn runFadedOut
 scratchAfter pool b e scratch =
     let s = firstPlace b e in
     let z = endPlace b e in
     cond (ltb s z) (fadedRun pool b s z e) scratch
 
 unfoldable pub afterBlock : Span → Event → Event
-unfolding add ofBits made steps firstPlace endPlace
 afterBlock b e =
     let s = firstPlace b e in
     let z = endPlace b e in
@@ -127,7 +118,6 @@ pub record BlockSum : Type 0 where
   pub events : List Event
 
 unfoldable pub blockSum : (pool : List Float) → Span → List Event → (channel scratch : List Float) → BlockSum
-unfolding channelAfter scratchAfter afterBlock
 blockSum pool b [] channel scratch = record { channel = channel; scratch = scratch; events = [] }
 blockSum pool b (e ∷ l) channel scratch =
     let r = blockSum pool b l (channelAfter pool b e channel) (scratchAfter pool b e scratch) in
@@ -141,3 +131,8 @@ overlay (suc c) run l = run ++ (drop (length run) (take 64 l) ++ overlay c run (
 abbrev pub overlayScratch : (c : ℕ) → (run : List Float) → Option (List Float) → Option (List Float)
 overlayScratch c run none = none
 overlayScratch c run (some l) = some (overlay c run l)
+
+-- What a case that computes must unfold.
+unfoldable pub computes : Unit {0}
+unfolding add sub mul div lt le round ofBits whole delerped narrowed index curve made steps fadedAll faded fadeInPlace fadeOutPlace runFadedIn runFadedOut firstPlace endPlace addAt channelAfter scratchAfter afterBlock blockSum overlay
+computes = tt

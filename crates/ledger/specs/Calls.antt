@@ -1,5 +1,6 @@
 -- The calls of the plain ledger with all that is lent to them, and what they give back.
 use Prim.Native.Nat.{ℕ}
+use mathlib.Core.Bool.{Bool, true, false}
 use mathlib.Core.List.{List}
 use mathlib.Core.Option.{Option}
 use lib.Ieee.{Float}
@@ -10,9 +11,19 @@ use Rattle.event.specs.declared.Source.{Source}
 pub data PushKind : Type 0 where
   absolute relative byDuration : PushKind
 
+-- whether both count from the clock
+abbrev pub isRelative : PushKind → Bool
+isRelative absolute = false
+isRelative relative = true
+isRelative byDuration = false
+
 -- an edit states its end, or its end relative to the clock
 pub data EditKind : Type 0 where
   absoluteEnd relativeEnd : EditKind
+
+abbrev pub endRelative : EditKind → Bool
+endRelative absoluteEnd = false
+endRelative relativeEnd = true
 
 pub data Call : Type 0 where
   push : PushKind → (start end fade-in fade-out : Float) → Fade → Source → Call
@@ -28,9 +39,9 @@ pub data Answer : Type 0 where
   applied past stored done : Answer
   refused : ℕ → Answer
 
--- What a call gives back: its answer, and what was lent to be written. Of a lent scratch the first `given` places of each channel count: the samples given (of a refused call all 64).
+-- What a call gives back: its answer, and what was lent to be written. Of a lent scratch the first `filled` places of each channel count: the samples given (of a refused call all 64).
 pub record Reply : Type 0 where
   pub answer : Answer
   pub out : List Float
   pub scratch : Option (List Float)
-  pub given : ℕ
+  pub filled : ℕ

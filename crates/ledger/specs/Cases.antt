@@ -1,15 +1,16 @@
 -- What the computed cases share: rate 8, clock 0, one channel, held 1.0 (the proof sheet itself is crate `sheet`). Assumes nothing.
 use Prim.Native.Nat.{ℕ, _^_}
 use mathlib.Core.Bool.{false}
-use mathlib.Core.List.{List, [], _∷_}
+use mathlib.Core.List.{List, [], _∷_, _++_, map}
+use mathlib.Core.Option.{none}
 use lib.IntN.{negsuc}
-use lib.Ieee.{Float, fin, round, binary64}
-use Rattle.floats.specs.Arithmetic.{oneᶠ, whole}
-use Rattle.math.specs.Curves.{smooth}
+use lib.ListN.{replicate}
+use lib.Ieee.{Float, fin, round, toBits, binary32, binary64}
+use Rattle.floats.specs.Arithmetic.{zeroᶠ, oneᶠ, whole}
 use Rattle.event.specs.declared.Fade.the-variants.{Smooth}
 use Rattle.event.specs.declared.ReplayMode.the-variants.{All}
 use Rattle.event.specs.declared.Source.the-variants.{Held}
-use Rattle.ledger.specs.Calls.{Call, push, rate, absolute, Answer, number, Reply}
+use Rattle.ledger.specs.Calls.{Call, push, tick, block, rate, absolute, Answer, Reply}
 use Rattle.ledger.specs.Ledger.{Ledger, fresh}
 use Rattle.ledger.specs.Steps.{run}
 
@@ -31,6 +32,13 @@ atRate8 = run (rate (whole 8) ∷ []) (fresh 1 All 1) .ledger
 abbrev pub held1 : (start end fade-in fade-out : Float) → Call
 held1 start end fade-in fade-out = push absolute start end fade-in fade-out Smooth (Held oneᶠ)
 
+-- a tick, and a block of n samples, of one channel
+abbrev pub one-tick : Call
+one-tick = tick [] (zeroᶠ ∷ [])
+
+abbrev pub blockOf : (n : ℕ) → Call
+blockOf n = block n [] (replicate 64 zeroᶠ) none
+
 abbrev pub answersOf : List Reply → List Answer
 answersOf [] = []
 answersOf (r ∷ l) = r .answer ∷ answersOf l
@@ -39,3 +47,17 @@ abbrev pub lastOut : List Reply → List Float
 lastOut [] = []
 lastOut (r ∷ []) = r .out
 lastOut (r ∷ (q ∷ l)) = lastOut (q ∷ l)
+
+-- every output, one after another
+abbrev pub outsOf : List Reply → List Float
+outsOf [] = []
+outsOf (r ∷ l) = r .out ++ outsOf l
+
+-- the bits of samples, as a listing prints them
+abbrev pub bits : List Float → List ℕ
+bits l = map (toBits binary32) l
+
+-- the replies of a fresh one-channel ledger at rate r
+unfoldable pub repliesAt : (r : Float) → List Call → List Reply
+unfolding run fresh
+repliesAt r cs = run (rate r ∷ cs) (fresh 1 All 1) .replies

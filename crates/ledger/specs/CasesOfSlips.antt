@@ -2,30 +2,25 @@
 use mathlib.Core.Path.{_≡_, refl}
 use mathlib.Core.Bool.{false}
 use mathlib.Core.List.{List, [], _∷_, _++_}
-use mathlib.Core.Option.{none}
 use lib.IntN.{negsuc}
 use lib.ListN.{length, take, drop, replicate}
 use lib.Ieee.{Float, fin}
 use Rattle.floats.specs.Arithmetic.{zeroᶠ, oneᶠ, halfᶠ, +∞, whole}
 use Rattle.event.specs.declared.Event.{Event}
 use Rattle.event.specs.declared.Fade.the-variants.{Smooth}
-use Rattle.event.specs.declared.ReplayMode.the-variants.{All}
 use Rattle.event.specs.declared.Source.the-variants.{Ramp}
-use Rattle.ledger.specs.Calls.{Call, push, edit, tick, block, rate, reset, absolute, absoluteEnd, relativeEnd, applied, past, stored, number, done, Reply}
+use Rattle.ledger.specs.Calls.{Call, push, edit, rate, reset, absolute, absoluteEnd, relativeEnd, applied, past, stored, number, done, Reply}
 use Rattle.ledger.specs.Lists.{numbers}
-use Rattle.ledger.specs.Ledger.{Ledger, fresh}
+use Rattle.ledger.specs.Ledger.{Ledger}
 use Rattle.ledger.specs.Steps.{run}
-use Rattle.ledger.specs.Cases.{atRate8, held1, decimal, 512ths, answersOf, lastOut}
+use Rattle.ledger.specs.Cases.{atRate8, held1, decimal, 512ths, one-tick, blockOf, answersOf, lastOut, repliesAt}
 
-abbrev one-tick : Call
-one-tick = tick [] (zeroᶠ ∷ [])
-
-abbrev endsOf : List Event → List Float
+abbrev pub endsOf : List Event → List Float
 endsOf [] = []
 endsOf (e ∷ l) = e .«end_time» ∷ endsOf l
 
 -- where a ramp stands
-abbrev valuesOf : List Event → List Float
+abbrev pub valuesOf : List Event → List Float
 valuesOf [] = []
 valuesOf (e ∷ l) = e .unit .value ∷ valuesOf l
 
@@ -41,7 +36,7 @@ repliesOf cs = run cs atRate8 .replies
 -- A block is not n ticks: in case 6 the block's place 13 is 1.220703125, and the fourteenth tick gives 1.
 pub block-is-not-ticks :
     let late : Call = held1 oneᶠ +∞ halfᶠ zeroᶠ in
-    (take 1 (drop 13 (lastOut (repliesOf (late ∷ block 16 [] (replicate 64 zeroᶠ) none ∷ [])))) ≡ 512ths 625 ∷ []) × (lastOut (repliesOf (late ∷ replicate 14 one-tick)) ≡ oneᶠ ∷ [])
+    (take 1 (drop 13 (lastOut (repliesOf (late ∷ blockOf 16 ∷ [])))) ≡ 512ths 625 ∷ []) × (lastOut (repliesOf (late ∷ replicate 14 one-tick)) ≡ oneᶠ ∷ [])
 unfolding repliesOf
 block-is-not-ticks = (refl, refl)
 
@@ -93,8 +88,8 @@ relative-edit = refl
 
 -- A start's place is (start - t) × r and a fade's (x - t) / d, and the two round differently: at rate 10, 0.15 is place 2 by the first and place 1 by the second.
 unfoldable pub atRate10 : Call → List Float
-unfolding run fresh
-atRate10 c = take 3 (lastOut (run (rate (whole 10) ∷ c ∷ block 8 [] (replicate 64 zeroᶠ) none ∷ []) (fresh 1 All 1) .replies))
+unfolding repliesAt
+atRate10 c = take 3 (lastOut (repliesAt (whole 10) (c ∷ blockOf 8 ∷ [])))
 
 pub places-round-differently : (atRate10 (held1 zeroᶠ +∞ (decimal 15 2) zeroᶠ) ≡ zeroᶠ ∷ oneᶠ ∷ oneᶠ ∷ []) × (atRate10 (held1 (decimal 15 2) +∞ zeroᶠ zeroᶠ) ≡ zeroᶠ ∷ zeroᶠ ∷ oneᶠ ∷ [])
 unfolding atRate10 decimal

@@ -1,7 +1,7 @@
--- Demand 3's claim about an engine, given by its creation, its calls and its view: one claim about every list of calls, refused ones included, and whatever is lent. It has no proof here: `specs.ClaimByRelation` has the way to one.
-use Prim.Native.Nat.{ℕ, _+_, _*_, _^_, _<_}
+-- Demand 3's claim about an engine, given by its creation, its calls and its view: one claim about every list of calls, with any arguments, refused ones included, and whatever is lent. It has no proof here: `specs.ClaimByRelation` has the way to one.
+use Prim.Native.Nat.{ℕ, _+_, _*_, _^_, _%_, _<_}
 use mathlib.Core.Path.{_≡_}
-use mathlib.Core.Bool.{Bool, false, cond}
+use mathlib.Core.Bool.{Bool, true, false, cond}
 use mathlib.Core.List.{List, [], _∷_, _++_, List·Memᴰ, Perm}
 use mathlib.Core.Option.{Option, none, some}
 use lib.ListN.{length, getD}
@@ -10,25 +10,36 @@ use Rattle.floats.specs.Arithmetic.{_<ᶠ_, zeroᶠ}
 use Rattle.event.specs.declared.Event.{Event}
 use Rattle.event.specs.declared.StoredEdit.{StoredEdit}
 use Rattle.event.specs.declared.ReplayMode.{ReplayMode}
-use Rattle.ledger.specs.Calls.{Call, Answer, Reply}
+use Rattle.ledger.specs.Calls.{Call, push, edit, tick, block, rate, reset, Answer, Reply}
 use Rattle.ledger.specs.Lists.{numbers, placeOf}
 use Rattle.ledger.specs.Ledger.{Ledger, create}
 use Rattle.ledger.specs.Steps.{run}
 use Rattle.ledger.specs.Numbers.{accepted, among, times}
-use Rattle.ledger.specs.Holdable.{AllHoldable}
 
 -- ---- an engine
 
--- what it holds: its arrays up to their counts, and the place that its index gives for a number, or none
+-- how many events wait, sound, are finished and were let go
+pub record Counts : Type 0 where
+  pub waiting : ℕ
+  pub sounding : ℕ
+  pub finished : ℕ
+  pub gone : ℕ
+
+-- what it holds: its arrays up to their counts, the four counts that it tells, the place that its index gives for a number, or none, and all else
 pub record View : Type 0 where
   pub heap : List Event
   pub sounding : List Event
   pub finished : List Event
-  pub gone : ℕ  -- the let-go count
+  pub counts : Counts
   pub index : (number : ℕ) → Option ℕ
   pub edits : List StoredEdit
   pub clock : Float
   pub threshold : Float
+  pub rate : Float
+  pub duration : Float
+  pub channels : ℕ
+  pub mode : ReplayMode
+  pub next : ℕ  -- the next number, 0 once 2 ^ 64 - 1 has been given
 
 pub record Engine : Type 1 where
   pub State : Type 0
@@ -71,15 +82,22 @@ ledgerAfter channels mode first cs =
 
 -- ---- what they have in common
 
--- The heap holds W's events, each once; the lists are S and F in order, every field and source place equal; and let-go count, clock, threshold and edits are L, t, θ and E.
+abbrev pub countsOf : Ledger → Counts
+countsOf l = record { waiting = length (l .waiting); sounding = length (l .sounding); finished = length (l .finished); gone = length (l .gone) }
+
+-- The heap holds W's events, each once; the lists are S and F in order, every field and source place equal; let-go count, clock, threshold and edits are L, t, θ and E; and so with the counts, the rate, d, the channels and the mode.
 pub record SameState (v : View) (l : Ledger) : Type 0 where
   pub heap : Perm (v .heap) (l .waiting)
   pub sounding : v .sounding ≡ l .sounding
   pub finished : v .finished ≡ l .finished
-  pub gone : v .gone ≡ length (l .gone)
+  pub counts : v .counts ≡ countsOf l
   pub clock : v .clock ≡ l .clock
   pub threshold : v .threshold ≡ l .threshold
   pub edits : v .edits ≡ l .edits
+  pub rate : v .rate ≡ l .rate
+  pub duration : v .duration ≡ l .duration
+  pub channels : v .channels ≡ l .channels
+  pub mode : v .mode ≡ l .mode
 
 -- a lent scratch, of 64 places for each channel c, up to the k samples given
 abbrev pub SameScratch : (k : ℕ) → (a b : Option (List Float)) → Type 0
@@ -92,7 +110,7 @@ SameScratch k (some a) (some b) = (length a ≡ length b) × ((c j : ℕ) → j 
 pub record SameReply (a b : Reply) : Type 0 where
   pub answer : a .answer ≡ b .answer
   pub out : a .out ≡ b .out
-  pub scratch : SameScratch (b .given) (a .scratch) (b .scratch)
+  pub scratch : SameScratch (b .filled) (a .scratch) (b .scratch)
 
 abbrev pub SameReplies : (a b : List Reply) → Type 0
 SameReplies [] [] = Unit {0}
@@ -107,22 +125,40 @@ IndexGivesPlaces v = (k : ℕ) → v .index k ≡ placeOf k (v .sounding)
 -- ---- the claim, sentence by sentence
 
 pub record ClaimAt (e : EngineAfter) (l : LedgerAfter) : Type 0 where
-  -- accepted pushes = waiting + sounding + finished + let go
-  pub counted : length (accepted (e .replies)) ≡ length (e .view .heap) + length (e .view .sounding) + length (e .view .finished) + e .view .gone
+  -- accepted pushes = waiting + sounding + finished + let go, by the counts that the engine tells
+  pub counted : let c = e .view .counts in length (accepted (e .replies)) ≡ c .waiting + c .sounding + c .finished + c .gone
   -- each accepted event is in exactly one: its number stands once in the heap, the sounding list, the finished list and G, and a number that no push was answered with stands there nowhere
   pub once : (k : ℕ) → times k (numbers (e .view .heap) ++ (numbers (e .view .sounding) ++ (numbers (e .view .finished) ++ l .ledger .gone))) ≡ cond (among k (accepted (e .replies))) 1 0
   -- the index gives a number's place exactly when it is sounding
   pub index : IndexGivesPlaces (e .view)
   -- no waiting event starts before the threshold
   pub on-time : (x : Event) → List·Memᴰ x (e .view .heap) → (x .«start_time» <ᶠ e .view .threshold) ≡ false
-  -- the four are the plain ledger's, and with them clock, threshold and edits
+  -- the four are the plain ledger's, their counts too, and with them clock, threshold, edits, rate, channels and mode
   pub state : SameState (e .view) (l .ledger)
+  pub next : e .view .next ≡ l .ledger .next % 2 ^ 64
   -- every answer and every sample are the plain ledger's, the creation's answer first
   pub created : e .created ≡ l .created
   pub replies : SameReplies (e .replies) (l .replies)
 
--- From any fresh engine, after any list of calls that the machine can hold.
+-- a block is lent a scratch if the engine takes one, else none
+abbrev pub isLent : Option (List Float) → Bool
+isLent none = false
+isLent (some l) = true
+
+abbrev pub Lends : (lends : Bool) → Call → Type 0
+Lends b (push kind start end fade-in fade-out curve source) = Unit {0}
+Lends b (edit kind k end fade-out) = Unit {0}
+Lends b (tick pool out) = Unit {0}
+Lends b (block n pool out scratch) = isLent scratch ≡ b
+Lends b (rate r) = Unit {0}
+Lends b reset = Unit {0}
+
+abbrev pub AllLend : (lends : Bool) → List Call → Type 0
+AllLend b [] = Unit {0}
+AllLend b (c ∷ cs) = Lends b c × AllLend b cs
+
+-- From any fresh engine (a first number is a u64), after any list of calls.
 abbrev pub Claim : Engine → Type 0
 Claim E =
-    (channels : ℕ) (mode : ReplayMode) (first : ℕ) (cs : List Call) → channels < 2 ^ 64 → first < 2 ^ 64 → AllHoldable (E .lends) cs
+    (channels : ℕ) (mode : ReplayMode) (first : ℕ) (cs : List Call) → first < 2 ^ 64 → AllLend (E .lends) cs
     → ClaimAt (engineAfter E channels mode first cs) (ledgerAfter channels mode first cs)

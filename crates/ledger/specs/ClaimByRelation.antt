@@ -1,5 +1,5 @@
 -- The way to demand 3's claim: a relation between the engine's states and ledgers that holds at creation, that each call keeps with equal replies, and that shows equal states. Assumes nothing.
-use Prim.Native.Nat.{ℕ, _+_, _^_, _<_}
+use Prim.Native.Nat.{ℕ, _+_, _^_, _%_, _<_}
 use mathlib.Core.Path.{_≡_, refl, sym, ap, ap₂, subst}
 use mathlib.Core.Bool.{false, cond, Bool-set}
 use mathlib.Core.List.{List, [], _∷_, _++_, List·Memᴰ, Perm·subset}
@@ -19,8 +19,7 @@ use Rattle.ledger.specs.Conservation.{byNumber}
 use Rattle.ledger.specs.Numbers.{acceptedOf, accepted, among, times}
 use Rattle.ledger.specs.Partition.{Partition, partition, is, times-is}
 use Rattle.ledger.specs.Lawful.{Lawful, create-lawful, step-lawful}
-use Rattle.ledger.specs.Holdable.{Holdable, AllHoldable}
-use Rattle.ledger.specs.Claim.{View, Engine, calls, engineAfter, SameState, SameReply, SameReplies, IndexGivesPlaces, Claim}
+use Rattle.ledger.specs.Claim.{Counts, countsOf, View, Engine, calls, engineAfter, SameState, SameReply, SameReplies, IndexGivesPlaces, Lends, AllLend, Claim}
 
 -- ---- what equal replies and equal states say
 
@@ -31,9 +30,10 @@ accepted-same (a ∷ l) [] h = absurd h
 accepted-same (a ∷ l) (b ∷ m) h = ap₂ (λ x y. acceptedOf x ++ y) (sym (h .0 .answer)) (accepted-same l m (h .1))
 
 module _ (v : View) (l : Ledger) (s : SameState v l) where
-  counted-of : (n : ℕ) → n ≡ held l + length (l .gone) → n ≡ length (v .heap) + length (v .sounding) + length (v .finished) + v .gone
+  counted-of : (n : ℕ) → n ≡ held l + length (l .gone) → let c = v .counts in n ≡ c .waiting + c .sounding + c .finished + c .gone
   counted-of n h =
-      omega (arith, eventSum-perm (λ x n. 1) (s .heap), eventSum-one (v .heap), eventSum-one (l .waiting), ap length (s .sounding), ap length (s .finished), s .gone)
+      let told : (f : Counts → ℕ) → f (v .counts) ≡ f (countsOf l) = λ f. ap f (s .counts) in
+      omega (arith, told (λ c. c .waiting), told (λ c. c .sounding), told (λ c. c .finished), told (λ c. c .gone))
 
   once-of : (first : ℕ) (answered : List ℕ) → Partition first l answered → (k : ℕ)
       → times k (numbers (v .heap) ++ (numbers (v .sounding) ++ (numbers (v .finished) ++ l .gone))) ≡ cond (among k answered) 1 0
@@ -48,12 +48,12 @@ module _ (v : View) (l : Ledger) (s : SameState v l) where
 -- ---- every list of calls
 
 module _ (E : Engine) (R : E .State → Ledger → Type 0)
-    (start : (channels : ℕ) (mode : ReplayMode) (first : ℕ) → channels < 2 ^ 64 → first < 2 ^ 64
+    (start : (channels : ℕ) (mode : ReplayMode) (first : ℕ) → first < 2 ^ 64
     → (E .new channels mode first .1 ≡ create channels mode first .answer) × R (E .new channels mode first .0) (create channels mode first .ledger))
-    (keep : (s : E .State) (l : Ledger) (c : Call) → Holdable (E .lends) c → Lawful l → R s l
+    (keep : (s : E .State) (l : Ledger) (c : Call) → Lends (E .lends) c → Lawful l → R s l
     → R (E .call s c .0) (step l c .ledger) × SameReply (E .call s c .1) (step l c .reply))
-    (shows : (s : E .State) (l : Ledger) → Lawful l → R s l → SameState (E .view s) l × IndexGivesPlaces (E .view s)) where
-  keep-all : (cs : List Call) (s : E .State) (l : Ledger) → AllHoldable (E .lends) cs → Lawful l → R s l
+    (shows : (s : E .State) (l : Ledger) → Lawful l → R s l → SameState (E .view s) l × IndexGivesPlaces (E .view s) × (E .view s .next ≡ l .next % 2 ^ 64)) where
+  keep-all : (cs : List Call) (s : E .State) (l : Ledger) → AllLend (E .lends) cs → Lawful l → R s l
       → R (calls E cs s .0) (run cs l .ledger) × Lawful (run cs l .ledger) × SameReplies (calls E cs s .1) (run cs l .replies)
   unfolding calls run
   keep-all [] s l h w r = (r, w, tt)
@@ -62,11 +62,18 @@ module _ (E : Engine) (R : E .State → Ledger → Type 0)
       let m = keep-all cs (E .call s c .0) (step l c .ledger) (h .1) (step-lawful l c w) (k .0) in
       (m .0, m .1, (k .1, m .2))
 
+  -- after any list of calls the relation holds, and the ledger is lawful
+  pub reached : (channels : ℕ) (mode : ReplayMode) (first : ℕ) (cs : List Call) → first < 2 ^ 64 → AllLend (E .lends) cs
+      → R (calls E cs (E .new channels mode first .0) .0) (run cs (create channels mode first .ledger) .ledger) × Lawful (run cs (create channels mode first .ledger) .ledger)
+  reached channels mode first cs f h =
+      let k = keep-all cs (E .new channels mode first .0) (create channels mode first .ledger) h (create-lawful channels mode first (omega arith)) (start channels mode first f .1) in
+      (k .0, k .1)
+
   pub claim-by-relation : Claim E
-  claim-by-relation channels mode first cs c f h =
+  claim-by-relation channels mode first cs f h =
       let new = create channels mode first .ledger in
       let l = run cs new .ledger in
-      let made = start channels mode first c f in
+      let made = start channels mode first f in
       let k = keep-all cs (E .new channels mode first .0) new h (create-lawful channels mode first (omega arith)) (made .1) in
       let e = engineAfter E channels mode first cs in
       let s = shows (calls E cs (E .new channels mode first .0) .0) l (k .1) (k .0) in
@@ -78,6 +85,7 @@ module _ (E : Engine) (R : E .State → Ledger → Type 0)
         index = s .1;
         on-time = on-time-of (e .view) l (s .0) (k .1);
         state = s .0;
+        next = s .2;
         created = made .0;
         replies = k .2;
       }

@@ -13,9 +13,10 @@ use Rattle.event.specs.declared.Edit.{Edit}
 use Rattle.event.specs.declared.ReplayMode.{ReplayMode}
 use Rattle.event.specs.declared.ReplayMode.the-variants.{All, None}
 use Rattle.floats.specs.Arithmetic.{_+ᵈ_, _-ᵈ_, _×ᵈ_, _<ᶠ_, zeroᶠ, halfᶠ}
+use Rattle.event.specs.Events.{newEvent}
 use Rattle.ledger.specs.Ledger.{Ledger}
 use Rattle.ledger.specs.Calls.{Call, push, edit, tick, block, rate, reset}
-use Rattle.ledger.specs.Steps.{Outcome, refusedReply, cleared, enter, newEvent, change, advance, stays, leaves, everything, setRate, restart, accept, decide, step, pushedTime, spanOf}
+use Rattle.ledger.specs.Steps.{Outcome, refusedReply, cleared, enter, change, advance, stays, leaves, everything, setRate, restart, accept, decide, step, pushedTime, spanOf}
 use Rattle.ledger.specs.Lists.{numbers, insertAll, start, sweep, has}
 use Rattle.ledger.specs.Refusals.{refusal, tickEnd, blockEnd, statedEnd, editEnd}
 use Rattle.ledger.specs.Numbers.{acceptedOf}

@@ -17,7 +17,7 @@ use Rattle.ledger.specs.Ledger.{Ledger, held, create}
 use Rattle.ledger.specs.Sums.{eventSum, eventSum-one, numberSum, numberSum-one, weight-in, weightless}
 use Rattle.ledger.specs.Conservation.{fourSum, step-adds}
 use Rattle.ledger.specs.Numbers.{acceptedOf, accepted}
-use Rattle.ledger.specs.Partition.{Partition, partition, stands, is, Numbered, same, given, step-numbered, create-empty}
+use Rattle.ledger.specs.Partition.{Partition, partition, stands, is, Numbered, same, issued, step-numbered, create-empty}
 use Rattle.ledger.specs.Sorted.{Sorted, weaklySorted, sorted-of, early, nanStart, one-if-no, no-one-if}
 use Rattle.ledger.specs.NotNan.{billion, le-not-nan}
 use Rattle.ledger.specs.OrderKept.{InOrder, step-order, create-order}
@@ -76,7 +76,7 @@ counts-step l o t (same a n) c =
       not-yet = λ k h. omega (arith, g (is k), c .not-yet k (omega (arith, n, h)));
       fewer = omega (arith, g one, c .fewer, n);
     }
-counts-step l o t (given a n) c =
+counts-step l o t (issued a n) c =
     let g : (u : ℕ → ℕ) → fourSum u (o .ledger) ≡ fourSum u l + u (l .next) = λ u. omega (arith, t u, ap (numberSum u) a) in
     record {
       positive = omega (arith, n);
@@ -163,11 +163,3 @@ pub run-lawful : (cs : List Call) (l : Ledger) → Lawful l → Lawful (run cs l
 unfolding run
 run-lawful [] l w = w
 run-lawful (c ∷ cs) l w = run-lawful cs (step l c .ledger) (step-lawful l c w)
-
--- After every list of calls from every creation: the laws, and the partition of the accepted numbers.
-pub after-calls : (channels : ℕ) (mode : ReplayMode) (first : ℕ) (cs : List Call) → first ≤ 2 ^ 64 → let l : Ledger = create channels mode first .ledger in
-    Lawful (run cs l .ledger) × Partition (l .next) (run cs l .ledger) (accepted (run cs l .replies))
-after-calls channels mode first cs p = (run-lawful cs (create channels mode first .ledger) (create-lawful channels mode first p), partition channels mode first cs)
-
-pub clock-not-nan : (l : Ledger) → Lawful l → T (not (isNan (l .clock)))
-clock-not-nan l w = le-not-nan (l .clock) billion (w .clock)

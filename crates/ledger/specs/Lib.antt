@@ -8,6 +8,10 @@ pub mod Steps
 pub mod Cases
 pub mod CasesOfSlips
 pub mod CasesOfLimits
+pub mod CasesOfLists
+pub mod CasesOfRefusals
+pub mod CasesOfSamples
+pub mod CasesOfFades
 pub mod Numbers
 pub mod FloatOrder
 pub mod NotNan
@@ -19,7 +23,6 @@ pub mod Refused
 pub mod OrderKept
 pub mod Limits
 pub mod Lawful
-pub mod Holdable
 pub mod Claim
 pub mod ClaimByRelation
 pub mod LedgerMeets

@@ -15,12 +15,12 @@ use Rattle.event.specs.declared.Edit.{Edit}
 use Rattle.event.specs.declared.ReplayMode.{ReplayMode}
 use Rattle.event.specs.declared.ReplayMode.the-variants.{All, None}
 use Rattle.floats.specs.Arithmetic.{_-ᵈ_, _×ᵈ_, _<ᶠ_, zeroᶠ, halfᶠ}
-use Rattle.event.specs.Events.{numberOf}
+use Rattle.event.specs.Events.{newEvent, numberOf}
 use Rattle.event.specs.declared.StoredEdit.{StoredEdit}
 use Rattle.ledger.specs.Calls.{Call, push, edit, tick, block, rate, reset}
 use Rattle.ledger.specs.Lists.{start, withEdit, editOf, dropEdit, storeEdit, has}
 use Rattle.ledger.specs.Refusals.{missing, checks, pushChecks, editChecks, refusal, tickEnd, blockEnd, statedEnd, editEnd}
-use Rattle.ledger.specs.Steps.{newEvent, accept, decide, step, change, setRate, restart, everything, advance, pushedTime, spanOf, cleared}
+use Rattle.ledger.specs.Steps.{accept, decide, step, change, setRate, restart, everything, advance, pushedTime, spanOf, cleared}
 use Rattle.ledger.specs.Ledger.{Ledger, create, held}
 use Rattle.ledger.specs.Sums.{eventSum-one, eventSum-rewound, eventSum-edit, eventSum-tick, eventSum-block}
 use Rattle.ledger.specs.Conservation.{heldSum, heldSum-enter, heldSum-advance, eventSum-stays, eventSum-everything}

@@ -15,9 +15,9 @@ use Rattle.event.specs.declared.ReplayMode.the-variants.{All, None}
 use Rattle.floats.specs.Arithmetic.{_-ᵈ_, _×ᵈ_, _<ᶠ_, _≤ᶠ_, zeroᶠ, halfᶠ, whole}
 use Rattle.ledger.specs.Calls.{Call, push, edit, tick, block, rate, reset}
 use Rattle.ledger.specs.Refusals.{checks, pushChecks, editChecks, refusal, tickEnd, blockEnd, statedEnd, within, withinEnd, editEnd}
-use Rattle.event.specs.Events.{rewound}
+use Rattle.event.specs.Events.{newEvent, rewound}
 use Rattle.ledger.specs.Lists.{insertAll, has}
-use Rattle.ledger.specs.Steps.{enter, newEvent, accept, decide, step, change, setRate, restart, everything, advance, pushedTime, spanOf, cleared}
+use Rattle.ledger.specs.Steps.{enter, accept, decide, step, change, setRate, restart, everything, advance, pushedTime, spanOf, cleared}
 use Rattle.ledger.specs.Ledger.{Ledger, create}
 use Rattle.ledger.specs.Sums.{eventSum, eventSum-insert, eventSum-rewound, eventSum-edit, eventSum-tick, eventSum-block}
 use Rattle.ledger.specs.Conservation.{heldSum, heldSum-enter, heldSum-advance, eventSum-stays, eventSum-everything}

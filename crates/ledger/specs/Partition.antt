@@ -32,7 +32,7 @@ fourSum-run u (c ∷ cs) l =
 
 pub data Numbered (l : Ledger) (o : Outcome) : Type 0 where
   same : acceptedOf (o .reply .answer) ≡ [] → o .ledger .next ≡ l .next → Numbered l o
-  given : acceptedOf (o .reply .answer) ≡ l .next ∷ [] → o .ledger .next ≡ suc (l .next) → Numbered l o
+  issued : acceptedOf (o .reply .answer) ≡ l .next ∷ [] → o .ledger .next ≡ suc (l .next) → Numbered l o
 
 change-numbered : (l : Ledger) (k : ℕ) (d : Edit) (a b : Bool) → Numbered l (change l k d a b)
 unfolding change
@@ -52,7 +52,7 @@ restart-next l None = refl
 
 accept-numbered : (l : Ledger) (c : Call) → Numbered l (accept l c)
 unfolding accept
-accept-numbered l (push kind start end fade-in fade-out curve source) = given refl refl
+accept-numbered l (push kind start end fade-in fade-out curve source) = issued refl refl
 accept-numbered l (edit kind k end fade-out) =
     change-numbered l k (record { «end_time» = editEnd kind (l .clock) end; «fade_out» = fade-out }) (has k (l .sounding)) (editEnd kind (l .clock) end <ᶠ l .threshold)
 accept-numbered l (tick pool out) = same refl refl
@@ -77,7 +77,7 @@ run-up (c ∷ cs) l = go (step l c) (step-numbered l c) (run-up cs (step l c .le
     go : (o : Outcome) → Numbered l o → accepted (run cs (o .ledger) .replies) ≡ upFrom (o .ledger .next) (length (accepted (run cs (o .ledger) .replies)))
         → acceptedOf (o .reply .answer) ++ accepted (run cs (o .ledger) .replies) ≡ upFrom (l .next) (length (acceptedOf (o .reply .answer) ++ accepted (run cs (o .ledger) .replies)))
     go o (same h n) r = rw (h, ← n) r
-    go o (given h n) r = rw h (ap (λ m. l .next ∷ m) (rw (← n) r))
+    go o (issued h n) r = rw h (ap (λ m. l .next ∷ m) (rw (← n) r))
 
 -- ---- counting one number
 

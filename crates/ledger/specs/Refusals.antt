@@ -33,14 +33,14 @@ unfolding le whole neg
 within x = neg (whole 1_000_000_000) ≤ᶠ x && x ≤ᶠ whole 1_000_000_000
 
 -- only an end or duration may be +infinity
-abbrev pub infinite : Float → Bool
-infinite nan = false
-infinite (inf negative) = not negative
-infinite (fin s m e) = false
+abbrev pub isPlusInfinity : Float → Bool
+isPlusInfinity nan = false
+isPlusInfinity (inf negative) = not negative
+isPlusInfinity (fin s m e) = false
 
 unfoldable pub withinEnd : Float → Bool
 unfolding within
-withinEnd x = within x || infinite x
+withinEnd x = within x || isPlusInfinity x
 
 abbrev pub finiteSource : Source → Bool
 finiteSource (Held level) = finite level

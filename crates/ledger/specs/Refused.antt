@@ -49,21 +49,21 @@ refusedWith stored = none
 refusedWith done = none
 refusedWith (refused k) = some k
 
-change-accepts : (l : Ledger) (k : ℕ) (d : Edit) (a b : Bool) → refusedWith (change l k d a b .reply .answer) ≡ none
+change-never-refuses : (l : Ledger) (k : ℕ) (d : Edit) (a b : Bool) → refusedWith (change l k d a b .reply .answer) ≡ none
 unfolding change
-change-accepts l k d true b = refl
-change-accepts l k d false true = refl
-change-accepts l k d false false = refl
+change-never-refuses l k d true b = refl
+change-never-refuses l k d false true = refl
+change-never-refuses l k d false false = refl
 
-pub accepts : (l : Ledger) (c : Call) → refusedWith (accept l c .reply .answer) ≡ none
+pub accept-never-refuses : (l : Ledger) (c : Call) → refusedWith (accept l c .reply .answer) ≡ none
 unfolding accept
-accepts l (push kind start end fade-in fade-out curve source) = refl
-accepts l (edit kind k end fade-out) =
-    change-accepts l k (record { «end_time» = editEnd kind (l .clock) end; «fade_out» = fade-out }) (has k (l .sounding)) (editEnd kind (l .clock) end <ᶠ l .threshold)
-accepts l (tick pool out) = refl
-accepts l (block n pool out scratch) = refl
-accepts l (rate r) = refl
-accepts l reset = refl
+accept-never-refuses l (push kind start end fade-in fade-out curve source) = refl
+accept-never-refuses l (edit kind k end fade-out) =
+    change-never-refuses l k (record { «end_time» = editEnd kind (l .clock) end; «fade_out» = fade-out }) (has k (l .sounding)) (editEnd kind (l .clock) end <ᶠ l .threshold)
+accept-never-refuses l (tick pool out) = refl
+accept-never-refuses l (block n pool out scratch) = refl
+accept-never-refuses l (rate r) = refl
+accept-never-refuses l reset = refl
 
 unchanged : (l : Ledger) (c : Call) (k : ℕ) → Unchanged l c (record { ledger = l; reply = refusedReply k c })
 unchanged l (push kind start end fade-in fade-out curve source) k = record { ledger = refl; out = refl; scratch = refl }
@@ -79,7 +79,7 @@ refused-unchanged l c k h = go (refusal l c) h
   where
     go : (o : Option ℕ) → decide o l c .reply .answer ≡ refused k → Unchanged l c (decide o l c)
     go (some j) h = unchanged l c j
-    go none h = absurd (let r = accepts l c in let z : _≡_ {A = ℕ} 0 1 = cc in omega arith)
+    go none h = absurd (let r = accept-never-refuses l c in let z : _≡_ {A = ℕ} 0 1 = cc in omega arith)
 
 -- ---- a call that no refusal names
 

@@ -8,16 +8,15 @@ use lib.Ieee.{Float, add, sub, mul, div, lt, eq}
 use Rattle.event.specs.declared.Event.{Event}
 use Rattle.event.specs.declared.Edit.{Edit}
 use Rattle.event.specs.declared.StoredEdit.{StoredEdit}
-use Rattle.event.specs.declared.Fade.{Fade}
 use Rattle.event.specs.declared.ReplayMode.{ReplayMode}
 use Rattle.event.specs.declared.ReplayMode.the-variants.{All, None}
-use Rattle.event.specs.declared.Source.{Source}
-use Rattle.event.specs.Events.{rewound}
-use Rattle.event.specs.Sources.{atStart}
+use Rattle.event.specs.Events.{newEvent, rewound}
 use Rattle.floats.specs.Arithmetic.{_+ᵈ_, _-ᵈ_, _×ᵈ_, _÷ᵈ_, _<ᶠ_, _≈ᶠ_, zeroᶠ, oneᶠ, halfᶠ, -∞}
 use Rattle.ledger.specs.Calls.{Call, PushKind, absolute, relative, byDuration, push, edit, tick, block, rate, reset, Answer, number, applied, past, stored, done, refused, Reply}
 use Rattle.ledger.specs.Lists.{insert, insertAll, numbers, has, storeEdit, editIn, start, sweep}
+use Rattle.ledger.specs.TickSamples as Tick
 use Rattle.ledger.specs.TickSamples.{tickSum}
+use Rattle.ledger.specs.BlockSamples as Block
 use Rattle.ledger.specs.BlockSamples.{Span, blockSum, overlay, overlayScratch}
 use Rattle.ledger.specs.Ledger.{Ledger}
 use Rattle.ledger.specs.Refusals.{statedEnd, editEnd, tickEnd, blockEnd, refusal}
@@ -28,7 +27,7 @@ pub record Outcome : Type 0 where
 
 -- a call to which nothing was lent to be written
 abbrev pub answers : Answer → Reply
-answers a = record { answer = a; out = []; scratch = none; given = 64 }
+answers a = record { answer = a; out = []; scratch = none; filled = 64 }
 
 -- the ledger with other lists, clock and threshold
 abbrev pub withLists : Ledger → (waiting sounding finished : List Event) → List StoredEdit → (clock threshold : Float) → (gone : List ℕ) → Ledger
@@ -54,17 +53,6 @@ unfolding add
 pushedTime absolute t x = x
 pushedTime relative t x = x +ᵈ t
 pushedTime byDuration t x = x
-
-abbrev pub newEvent : (start end fade-in fade-out : Float) → Fade → Source → (number : ℕ) → Event
-newEvent start end fade-in fade-out curve source k = record {
-  «start_time» = start;
-  «end_time» = end;
-  «fade_ease» = curve;
-  «fade_in» = fade-in;
-  «fade_out» = fade-out;
-  unit = atStart source;
-  id = record { 0 = k };
-}
 
 unfoldable pub enter : Ledger → Event → Ledger
 unfolding lt insert
@@ -155,7 +143,7 @@ restart l None = withLists l [] [] [] [] zeroᶠ -∞ (l .gone ++ (numbers (l .f
 -- ---- a call that no refusal names
 
 unfoldable pub accept : Ledger → Call → Outcome
-unfolding statedEnd pushedTime editEnd tickEnd blockEnd enter change advance tickSum blockSum overlay setRate restart lt eq
+unfolding statedEnd pushedTime editEnd tickEnd blockEnd enter change advance Tick.computes Block.computes setRate restart eq
 accept l (push kind start end fade-in fade-out curve source) =
     let t = l .clock in
     record {
@@ -170,7 +158,7 @@ accept l (tick pool out) =
     let r = tickSum pool (l .clock) (m .sounding) zeroᶠ in
     record {
       ledger = withSounding m (r .events);
-      reply = record { answer = done; out = replicate (l .channels) (r .out); scratch = none; given = 64 };
+      reply = record { answer = done; out = replicate (l .channels) (r .out); scratch = none; filled = 64 };
     }
 accept l (block n pool out scratch) =
     let m = advance l (blockEnd l n) in
@@ -181,7 +169,7 @@ accept l (block n pool out scratch) =
         answer = done;
         out = overlay (l .channels) (r .channel) out;
         scratch = overlayScratch (l .channels) (r .scratch) scratch;
-        given = length (r .scratch);
+        filled = length (r .scratch);
       };
     }
 accept l (rate r) = record { ledger = setRate l r (l .rate ≈ᶠ r); reply = answers done }
@@ -192,8 +180,8 @@ accept l reset = record { ledger = restart l (l .mode); reply = answers done }
 abbrev pub refusedReply : (k : ℕ) → Call → Reply
 refusedReply k (push kind start end fade-in fade-out curve source) = answers (refused k)
 refusedReply k (edit kind n end fade-out) = answers (refused k)
-refusedReply k (tick pool out) = record { answer = refused k; out = out; scratch = none; given = 64 }
-refusedReply k (block n pool out scratch) = record { answer = refused k; out = out; scratch = scratch; given = 64 }
+refusedReply k (tick pool out) = record { answer = refused k; out = out; scratch = none; filled = 64 }
+refusedReply k (block n pool out scratch) = record { answer = refused k; out = out; scratch = scratch; filled = 64 }
 refusedReply k (rate r) = answers (refused k)
 refusedReply k reset = answers (refused k)
 

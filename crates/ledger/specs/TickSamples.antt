@@ -12,14 +12,12 @@ use Rattle.event.specs.Sources.{sampleOf, advanced}
 
 -- The value is multiplied by the curve at narrow((t - start) / ((start + fade-in) - start)) if fade-in > 0 and that phase < 1 ..
 unfoldable pub fadedIn : (t : Float) → Event → Float → Float
-unfolding add sub mul lt delerped narrowed round curve
 fadedIn t e x =
     let phase = narrowed (delerped (e .«start_time») (e .«start_time» +ᵈ e .«fade_in») t) in
     cond (zeroᶠ <ᶠ e .«fade_in» && phase <ᶠ oneᶠ) (x ×ˢ curve (e .«fade_ease») phase) x
 
 -- .. then by the curve at 1 - phase for fade-out > 0 and phase > 0, phase = narrow((t - (end - fade-out)) / (end - (end - fade-out)))
 unfoldable pub fadedOut : (t : Float) → Event → Float → Float
-unfolding add sub mul lt delerped narrowed round curve
 fadedOut t e x =
     let phase = narrowed (delerped (e .«end_time» -ᵈ e .«fade_out») (e .«end_time») t) in
     cond (zeroᶠ <ᶠ e .«fade_out» && zeroᶠ <ᶠ phase) (x ×ˢ curve (e .«fade_ease») (oneᶠ -ˢ phase)) x
@@ -36,8 +34,12 @@ pub record TickSum : Type 0 where
   pub events : List Event
 
 unfoldable pub tickSum : (pool : List Float) → (t : Float) → List Event → (out : Float) → TickSum
-unfolding add ofBits fadedIn fadedOut
 tickSum pool t [] out = record { out = out; events = [] }
 tickSum pool t (e ∷ s) out =
     let r = tickSum pool t s (out +ˢ tickSample pool t e) in
     record { out = r .out; events = afterTick e ∷ r .events }
+
+-- What a case that computes must unfold.
+unfoldable pub computes : Unit {0}
+unfolding add sub mul lt round ofBits delerped narrowed curve fadedIn fadedOut tickSum
+computes = tt

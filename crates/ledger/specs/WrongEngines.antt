@@ -1,12 +1,12 @@
 -- Document 01's conditions of acceptance: the claim is refuted for each of the six wrong engines. Assumes nothing.
-use Prim.Native.Nat.{ℕ}
+use Prim.Native.Nat.{ℕ, _^_, _%_}
 use mathlib.Core.Path.{_≡_, refl, ap}
 use mathlib.Core.Bool.{Bool, true, false}
 use mathlib.Core.List.{List, [], _∷_, List·Memᴰ·head}
 use mathlib.Core.Option.{Option, none, some}
 use native.Mathlib.Omega.{arith}
 use lib.ListN.{length, getD, replicate}
-use lib.Ieee.{Float, nan, inf, fin, fits}
+use lib.Ieee.{Float, nan, inf, fin}
 use Rattle.floats.specs.Arithmetic.{zeroᶠ, oneᶠ, whole}
 use Rattle.event.specs.declared.Fade.the-variants.{Smooth}
 use Rattle.event.specs.declared.ReplayMode.the-variants.{All, None}
@@ -15,8 +15,7 @@ use Rattle.ledger.specs.Calls.{Call, push, edit, tick, block, rate, rese
 use Rattle.ledger.specs.Lists.{placeOf}
 use Rattle.ledger.specs.Ledger.{Ledger, create}
 use Rattle.ledger.specs.Steps.{refusedReply, withLists, step, run}
-use Rattle.ledger.specs.Holdable.{allFit, Holdable}
-use Rattle.ledger.specs.Claim.{Engine, calls, Claim}
+use Rattle.ledger.specs.Claim.{Counts, Engine, calls, Claim}
 use Rattle.ledger.specs.LedgerMeets.{viewOf, pairOf, engineOf}
 
 -- ---- calls that show the difference
@@ -36,23 +35,6 @@ scratch false = none
 
 abbrev one-block : (lends : Bool) → Call
 one-block b = block 8 [] zeros (scratch b)
-
-clip-held : (b : Bool) → Holdable b clip
-unfolding fits
-clip-held b = (tt, tt, tt, tt, tt)
-
-tick-held : (b : Bool) → Holdable b one-tick
-unfolding fits allFit
-tick-held b = ((omega arith, tt), (omega arith, tt))
-
-block-held : (b : Bool) → Holdable b (one-block b)
-unfolding fits allFit
-block-held true = (omega arith, (omega arith, tt), (omega arith, tt), (omega arith, tt))
-block-held false = (omega arith, (omega arith, tt), (omega arith, tt), tt)
-
-rate-held : (b : Bool) → Holdable b (rate (whole 8))
-unfolding fits whole
-rate-held b = tt
 
 abbrev isPush : Call → Bool
 isPush (push k start end fade-in fade-out curve source) = true
@@ -78,7 +60,7 @@ full l c = elim (isPush c) [ true ↦ (l, refusedReply 6 c) | false ↦ pairOf (
 pub not-full : (b : Bool) → ¬ Claim (engineOf b full)
 unfolding calls run create
 not-full b d =
-    let h : refused 6 ≡ number 1 = d 1 All 1 (clip ∷ []) (omega arith) (omega arith) (clip-held b, tt) .replies .0 .answer in
+    let h : refused 6 ≡ number 1 = d 1 All 1 (clip ∷ []) (omega arith) (tt, tt) .replies .0 .answer in
     let z : _≡_ {A = ℕ} 0 1 = cc in omega arith
 
 -- ---- 2: it declares its clock spent at 0. By answers: its first tick.
@@ -89,7 +71,7 @@ spent l c = elim (isTickOrBlock c) [ true ↦ (l, refusedReply 12 c) | false ↦
 pub not-spent : (b : Bool) → ¬ Claim (engineOf b spent)
 unfolding calls run create
 not-spent b d =
-    let h : refused 12 ≡ done = d 1 All 1 (one-tick ∷ []) (omega arith) (omega arith) (tick-held b, tt) .replies .0 .answer in
+    let h : refused 12 ≡ done = d 1 All 1 (one-tick ∷ []) (omega arith) (tt, tt) .replies .0 .answer in
     let z : _≡_ {A = ℕ} 0 1 = cc in omega arith
 
 -- ---- 3: it writes silence. By samples: a held 1.0 in the first tick.
@@ -97,12 +79,12 @@ not-spent b d =
 abbrev silent : Ledger → Call → Ledger × Reply
 silent l c =
     let o = step l c in
-    (o .ledger, record { answer = o .reply .answer; out = replicate (length (o .reply .out)) zeroᶠ; scratch = o .reply .scratch; given = o .reply .given })
+    (o .ledger, record { answer = o .reply .answer; out = replicate (length (o .reply .out)) zeroᶠ; scratch = o .reply .scratch; filled = o .reply .filled })
 
 pub not-silent : (b : Bool) → ¬ Claim (engineOf b silent)
 unfolding calls run create
 not-silent b d =
-    let h : zeroᶠ ∷ [] ≡ oneᶠ ∷ [] = d 1 All 1 (clip ∷ one-tick ∷ []) (omega arith) (omega arith) (clip-held b, (tick-held b, tt)) .replies .1 .0 .out in
+    let h : zeroᶠ ∷ [] ≡ oneᶠ ∷ [] = d 1 All 1 (clip ∷ one-tick ∷ []) (omega arith) (tt, (tt, tt)) .replies .1 .0 .out in
     let z : _≡_ {A = ℕ} 0 1 = cc in omega arith
 
 -- ---- 4: it moves nothing and leaves all waiting. By the threshold: if its own stays, that is not θ after a tick; if it moves, an event waits that starts before it.
@@ -116,20 +98,20 @@ atRest stays l c =
       | false ↦ pairOf o
     ]
 
-abbrev infinite : Float → ℕ
-infinite nan = 0
-infinite (inf s) = 1
-infinite (fin s m e) = 0
+abbrev infinities : Float → ℕ
+infinities nan = 0
+infinities (inf s) = 1
+infinities (fin s m e) = 0
 
 pub not-at-rest : (b : Bool) → ¬ Claim (engineOf b (atRest true))
 unfolding calls run create
 not-at-rest b d =
-    let z : _≡_ {A = ℕ} 1 0 = ap infinite (d 1 All 1 (one-tick ∷ []) (omega arith) (omega arith) (tick-held b, tt) .state .threshold) in omega arith
+    let z : _≡_ {A = ℕ} 1 0 = ap infinities (d 1 All 1 (one-tick ∷ []) (omega arith) (tt, tt) .state .threshold) in omega arith
 
 pub not-all-waiting : (b : Bool) → ¬ Claim (engineOf b (atRest false))
 unfolding calls run create
 not-all-waiting b d =
-    let h : true ≡ false = d 1 All 1 (clip ∷ one-tick ∷ []) (omega arith) (omega arith) (clip-held b, (tick-held b, tt)) .on-time _ (List·Memᴰ·head refl) in
+    let h : true ≡ false = d 1 All 1 (clip ∷ one-tick ∷ []) (omega arith) (tt, (tt, tt)) .on-time _ (List·Memᴰ·head refl) in
     let z : _≡_ {A = ℕ} 0 1 = cc in omega arith
 
 -- ---- 5: it renders its first block and then repeats it. By the whole list: the second block, after the clip's end.
@@ -139,7 +121,7 @@ again first l (block n pool out scratch) =
     let o = step l (block n pool out scratch) in
     elim first [
       | none ↦ ((o .ledger, some (o .reply .out)), o .reply)
-      | some m ↦ ((o .ledger, some m), record { answer = o .reply .answer; out = m; scratch = o .reply .scratch; given = o .reply .given })
+      | some m ↦ ((o .ledger, some m), record { answer = o .reply .answer; out = m; scratch = o .reply .scratch; filled = o .reply .filled })
     ]
 again first l (push k start end fade-in fade-out curve source) = let o = step l (push k start end fade-in fade-out curve source) in ((o .ledger, first), o .reply)
 again first l (edit k n end fade-out) = let o = step l (edit k n end fade-out) in ((o .ledger, first), o .reply)
@@ -158,10 +140,10 @@ repeating b = record {
 
 first-sample : (b : Bool) → Claim (repeating b) → oneᶠ ≡ zeroᶠ
 unfolding calls run create whole
-first-sample true d = ap (λ l. getD l 0 nan) (d 1 All 1 (rate (whole 8) ∷ clip ∷ one-block true ∷ one-block true ∷ []) (omega arith) (omega arith)
-    (rate-held true, (clip-held true, (block-held true, (block-held true, tt)))) .replies .1 .1 .1 .0 .out)
-first-sample false d = ap (λ l. getD l 0 nan) (d 1 All 1 (rate (whole 8) ∷ clip ∷ one-block false ∷ one-block false ∷ []) (omega arith) (omega arith)
-    (rate-held false, (clip-held false, (block-held false, (block-held false, tt)))) .replies .1 .1 .1 .0 .out)
+first-sample true d = ap (λ l. getD l 0 nan) (d 1 All 1 (rate (whole 8) ∷ clip ∷ one-block true ∷ one-block true ∷ []) (omega arith)
+    (tt, (tt, (refl, (refl, tt)))) .replies .1 .1 .1 .0 .out)
+first-sample false d = ap (λ l. getD l 0 nan) (d 1 All 1 (rate (whole 8) ∷ clip ∷ one-block false ∷ one-block false ∷ []) (omega arith)
+    (tt, (tt, (refl, (refl, tt)))) .replies .1 .1 .1 .0 .out)
 
 pub not-repeating : (b : Bool) → ¬ Claim (repeating b)
 not-repeating b d =
@@ -180,17 +162,22 @@ inventing count b = record {
     heap = l .waiting;
     sounding = l .sounding;
     finished = l .finished;
-    gone = count;
+    counts = record { waiting = length (l .waiting); sounding = length (l .sounding); finished = length (l .finished); gone = count };
     index = λ k. placeOf k (l .sounding);
     edits = l .edits;
     clock = l .clock;
     threshold = l .threshold;
+    rate = l .rate;
+    duration = l .duration;
+    channels = l .channels;
+    mode = l .mode;
+    next = l .next % 2 ^ 64;
   };
 }
 
 pub not-inventing : (count : ℕ) (b : Bool) → ¬ Claim (inventing count b)
 unfolding calls run create
 not-inventing count b d =
-    let before : count ≡ 0 = d 1 None 1 [] (omega arith) (omega arith) tt .state .gone in
-    let after : count ≡ 1 = d 1 None 1 (clip ∷ reset ∷ []) (omega arith) (omega arith) (clip-held b, (tt, tt)) .state .gone in
+    let before : count ≡ 0 = ap (λ (c : Counts). c .gone) (d 1 None 1 [] (omega arith) tt .state .counts) in
+    let after : count ≡ 1 = ap (λ (c : Counts). c .gone) (d 1 None 1 (clip ∷ reset ∷ []) (omega arith) (tt, (tt, tt)) .state .counts) in
     omega arith

@@ -138,7 +138,7 @@ sameReplies (r ∷ l) (c ∷ m) =
     let w = c .1 in
     sameAnswer (r .answer) (w .answer)
     && (sameOut (w .channels) (w .stride) (w .samples) (r .out)
-    && (sameScratch (w .channels) (r .given) (w .scratch) (r .scratch) && sameReplies l m))
+    && (sameScratch (w .channels) (r .filled) (w .scratch) (r .scratch) && sameReplies l m))
 
 -- ---- equal states
 

@@ -37,9 +37,9 @@ fn event_of(code: u64, id: u64) -> Event {
     Event {
         start_time: start,
         end_time: start + 1.0,
-        fade_ease: Fade::Smooth,
         fade_in: 0.5,
         fade_out: 0.25,
+        fade_ease: Fade::Smooth,
         unit: Unit {
             source: Source::Clip(7, 9),
             value: 0.0,

@@ -122,27 +122,6 @@ distinct-last e (f ∷ l) d =
 
 -- ---- what the operations of the sounding list keep
 
-pub distinct-append : (l : List Event) (e : Event) → has (numberOf e) l ≡ false → Distinct l → Distinct (l ++ (e ∷ []))
-distinct-append [] e h d = (refl, tt)
-distinct-append (f ∷ l) e h d =
-    let r = or-parts (eqb (numberOf f) (numberOf e)) (has (numberOf e) l) h in (
-      has-append (numberOf f) l (e ∷ []) ∙ ap (λ (b : Bool). b || (eqb (numberOf e) (numberOf f) || false)) (d .0) ∙ ap (λ (b : Bool). b || false) (other-way (numberOf f) (numberOf e) (r .0)),
-      distinct-append l e (r .1) (d .1),
-    )
-
--- e leaves, and the last fills its place
-pub distinct-swap : (p : List Event) (e : Event) (q : List Event) → Distinct (p ++ (e ∷ q)) → Distinct (p ++ lastFirst q)
-distinct-swap [] e [] d = tt
-distinct-swap [] e (f ∷ q) d = distinct-last f q (d .1)
-distinct-swap (y ∷ p) e q d = (
-  has-append (numberOf y) p (lastFirst q) ∙ ap (λ (b : Bool). has (numberOf y) p || b) (has-lastFirst (numberOf y) q ∙ (or-parts (eqb (numberOf e) (numberOf y)) (has (numberOf y) q) rest .1 ∙ sym rest))
-      ∙ sym (has-append (numberOf y) p (e ∷ q)) ∙ d .0,
-  distinct-swap p e q (d .1),
-)
-  where
-    rest : (eqb (numberOf e) (numberOf y) || has (numberOf y) q) ≡ false
-    rest = or-parts (has (numberOf y) p) (eqb (numberOf e) (numberOf y) || has (numberOf y) q) (sym (has-append (numberOf y) p (e ∷ q)) ∙ d .0) .1
-
 -- an edit keeps the numbers
 has-edit : (n k : ℕ) (d : Edit) (l : List Event) → has n (editIn k d l) ≡ has n l
 has-edit n k d [] = refl

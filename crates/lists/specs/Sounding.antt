@@ -58,33 +58,7 @@ module _ (k : EventId) {xs : List Event} {ids : List EventId} {n : ℕ} {l : Lis
   unfolding foundId
   index-find h = ap placeFound (holds-seek noId (isId k) (h .1)) ∙ place-from k l 0 ∙ raised-none (placeOf (k .0) l)
 
--- the index gives place i for a number exactly when the number stands there, and nothing exactly when it does not stand in l
-pub record Exact (ids : List EventId) (n : ℕ) (l : List Event) : Type 0 where
-  pub there : (k : EventId) (i : ℕ) → foundId (record { ids = ids; len = n }) k ≡ At i → (i < length l) × (numberOf (getD l i blank) ≡ k .0)
-  pub found : (i : ℕ) → i < length l → foundId (record { ids = ids; len = n }) (getD l i blank .id) ≡ At i
-  pub nowhere : (k : EventId) → foundId (record { ids = ids; len = n }) k ≡ Nothing → has (k .0) l ≡ false
-  pub missing : (k : EventId) → has (k .0) l ≡ false → foundId (record { ids = ids; len = n }) k ≡ Nothing
-
-is-at : (f : Found) (i : ℕ) → placeFound f ≡ some i → f ≡ At i
-is-at (At j) i h = cc
-is-at Nothing i h = absurd (let z : _≡_ {A = ℕ} 0 1 = cc in omega arith)
-
-is-nothing : (f : Found) → placeFound f ≡ none → f ≡ Nothing
-is-nothing (At j) h = absurd (let z : _≡_ {A = ℕ} 0 1 = cc in omega arith)
-is-nothing Nothing h = refl
-
-pub index-exact : {xs : List Event} {ids : List EventId} {n : ℕ} {l : List Event} → Distinct l → Listed xs ids n l → Exact ids n l
-index-exact {xs} {ids} {n} {l} d h = record {
-  there = λ k i q. place-stands (k .0) l i (sym (index-find k h) ∙ ap placeFound q);
-  found = λ i p. is-at (foundId (record { ids = ids; len = n }) (getD l i blank .id)) i (index-find (getD l i blank .id) h ∙ distinct-place l d i p);
-  nowhere = λ k q. place-none (k .0) l (sym (index-find k h) ∙ ap placeFound q);
-  missing = λ k q. is-nothing (foundId (record { ids = ids; len = n }) k) (index-find k h ∙ none-place (k .0) l q);
-}
-
 -- ---- the operations
-
-pub listed-none : (xs : List Event) (ids : List EventId) → length xs ≡ 256 → length ids ≡ 256 → Listed xs ids 0 []
-listed-none xs ids p q = (holds-none xs p, holds-none ids q)
 
 pub listed-append : (e : Event) {xs : List Event} {ids : List EventId} {n : ℕ} {l : List Event} → n < 256 → Listed xs ids n l
     → Listed (set xs n e) (set ids n (e .id)) (n + 1) (l ++ (e ∷ []))

@@ -4,18 +4,16 @@ use mathlib.Core.Path.{_≡_, refl}
 use mathlib.Core.List.{[], _∷_}
 use lib.IntN.{pos, negsuc}
 use lib.ListN.{replicate}
-use lib.Ieee.{Float, fin, round, ofBits, add, sub, mul, div, neg, lt, le}
+use lib.Ieee.{Float, fin, div, neg}
 use Rattle.event.specs.declared.Event.{Event}
 use Rattle.event.specs.declared.Fade.the-variants.{Smooth}
 use Rattle.event.specs.declared.Source.the-variants.{Held}
-use Rattle.event.specs.Fades.{curve}
-use Rattle.event.specs.Runs.{made, steps}
 use Rattle.event.specs.Sources.{atStart}
 use Rattle.floats.specs.Arithmetic.{zeroᶠ, oneᶠ, halfᶠ, whole, +∞}
-use Rattle.floats.specs.Floats.{narrowed, index}
-use Rattle.math.specs.Curves.{smooth, delerped}
-use Rattle.ledger.specs.TickSamples.{fadedIn, fadedOut, tickSample}
-use Rattle.ledger.specs.BlockSamples.{channelAfter, firstPlace, endPlace, faded, fadeInPlace, fadeOutPlace, runFadedIn, runFadedOut, addAt}
+use Rattle.ledger.specs.TickSamples as Tick
+use Rattle.ledger.specs.TickSamples.{tickSample}
+use Rattle.ledger.specs.BlockSamples as Block
+use Rattle.ledger.specs.BlockSamples.{channelAfter}
 use Rattle.mixing.specs.Blocks.{asSpan}
 use Rattle.mixing.specs.declared.Span.{Span}
 
@@ -26,9 +24,9 @@ abbrev event : (start end fade-in fade-out : Float) → Event
 event start end fade-in fade-out = record {
   «start_time» = start;
   «end_time» = end;
-  «fade_ease» = Smooth;
   «fade_in» = fade-in;
   «fade_out» = fade-out;
+  «fade_ease» = Smooth;
   unit = atStart (Held oneᶠ);
   id = record { 0 = 1 };
 }
@@ -43,16 +41,16 @@ high = fin false 459 (negsuc 8)
 -- four of 1, then 1, 0.896484375, 0.5, 0.103515625, then eight 0
 pub case5 : channelAfter [] (asSpan span) (event zeroᶠ oneᶠ zeroᶠ halfᶠ) (replicate 16 zeroᶠ)
     ≡ oneᶠ ∷ oneᶠ ∷ oneᶠ ∷ oneᶠ ∷ oneᶠ ∷ high ∷ halfᶠ ∷ low ∷ replicate 8 zeroᶠ
-unfolding channelAfter firstPlace endPlace faded fadeInPlace fadeOutPlace runFadedIn runFadedOut addAt made steps curve smooth delerped narrowed index whole ofBits round add sub mul div neg lt le
+unfolding Block.computes neg
 case5 = refl
 
 -- places 8 to 15 are 0, 0.103515625, 0.5, 0.896484375, 1, 1.220703125, 3.375, 11.388671875
 pub case6 : channelAfter [] (asSpan span) (event oneᶠ +∞ halfᶠ zeroᶠ) (replicate 16 zeroᶠ)
     ≡ zeroᶠ ∷ zeroᶠ ∷ zeroᶠ ∷ zeroᶠ ∷ zeroᶠ ∷ zeroᶠ ∷ zeroᶠ ∷ zeroᶠ ∷ zeroᶠ ∷ low ∷ halfᶠ ∷ high ∷ oneᶠ ∷ fin false 625 (negsuc 8) ∷ fin false 27 (negsuc 2) ∷ fin false 5831 (negsuc 8) ∷ []
-unfolding channelAfter firstPlace endPlace faded fadeInPlace fadeOutPlace runFadedIn runFadedOut addAt made steps curve smooth delerped narrowed index whole ofBits round add sub mul div neg lt le
+unfolding Block.computes neg
 case6 = refl
 
 -- A block is not n ticks: at place 13 of case 6 a tick gives 1.
 pub case6-tick : tickSample [] (fin false 13 (negsuc 2)) (event oneᶠ +∞ halfᶠ zeroᶠ) ≡ oneᶠ
-unfolding fadedIn fadedOut curve smooth delerped narrowed ofBits round add sub mul div neg lt
+unfolding Tick.computes div neg
 case6-tick = refl

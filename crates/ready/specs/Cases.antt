@@ -20,9 +20,9 @@ abbrev event : Float → ℕ → Event
 event t n = record {
   «start_time» = t;
   «end_time» = t;
-  «fade_ease» = Power;
   «fade_in» = t;
   «fade_out» = t;
+  «fade_ease» = Power;
   unit = record { source = Held t; value = t; place = 0 };
   id = record { 0 = n };
 }

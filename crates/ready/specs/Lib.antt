@@ -4,7 +4,6 @@ pub mod Steps
 pub mod HeapOrder
 pub mod Sorted
 pub mod Stands
-pub mod Keeps
 pub mod EventSet
 pub mod Waits
 pub mod Cases

@@ -16,9 +16,9 @@ abbrev pub unused : Event
 unused = record {
   «start_time» = zeroᶠ;
   «end_time» = zeroᶠ;
-  «fade_ease» = Power;
   «fade_in» = zeroᶠ;
   «fade_out» = zeroᶠ;
+  «fade_ease» = Power;
   unit = record { source = Held zeroᶠ; value = zeroᶠ; place = 0 };
   id = record { 0 = 0 };
 }

@@ -21,9 +21,9 @@ impl Ready {
         let event = Event {
             start_time: 0.0,
             end_time: 0.0,
-            fade_ease: Fade::Power,
             fade_in: 0.0,
             fade_out: 0.0,
+            fade_ease: Fade::Power,
             unit: Unit {
                 source: Source::Held(0.0),
                 value: 0.0,

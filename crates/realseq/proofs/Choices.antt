@@ -8,7 +8,8 @@ use lib.Ieee.{Float}
 use borrow.Author.Tests.{eq-eqb, ne-eqb, le-leb, lt-leb}
 use Rattle.realseq.specs.declared.SequencerBackend.{SequencerBackend}
 use Rattle.realseq.specs.declared.Outcome.{Outcome}
-use Rattle.realseq.specs.Fronts.{refuses, orFull}
+use Rattle.realseq.specs.Fronts.{orFull}
+use Rattle.realseq.specs.Answers.{refuses}
 
 module _ (k j : ℕ) (e : k ≡ j) where
   some : (k ≡ 0 → ⊥) → eqb j 0 ≡ false

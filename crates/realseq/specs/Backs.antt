@@ -11,12 +11,8 @@ use Rattle.sequencer.specs.Rendering.{renderedTick, renderedTickOut, renderedBl
 use Rattle.sequencer.specs.Resets.{reRated}
 use Rattle.realseq.specs.declared.SequencerBackend.{SequencerBackend}
 use Rattle.realseq.specs.declared.Outcome.{Outcome}
-use Rattle.realseq.specs.declared.Answer.the-variants.{Done}
 use Rattle.realseq.specs.Handling.{pastSentBy, pastSent, drained}
-use Rattle.realseq.specs.Fronts.{refuses}
-
-abbrev pub accepts : SequencerBackend → Outcome
-accepts d = record { backend = d; answer = Done }
+use Rattle.realseq.specs.Answers.{accepts, refuses}
 
 abbrev pub withEngine : SequencerBackend → Sequencer → SequencerBackend
 withEngine d s = record { sequencer = s; messages = d .messages; returned = d .returned }

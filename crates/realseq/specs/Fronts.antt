@@ -9,15 +9,15 @@ use Rattle.event.specs.declared.EventId.{EventId}
 use Rattle.event.specs.declared.Fade.{Fade}
 use Rattle.event.specs.declared.Source.{Source}
 use Rattle.floats.specs.Arithmetic.{_-ᵈ_}
-use Rattle.ledger.specs.Calls.{PushKind, EditKind}
+use Rattle.event.specs.Events.{newEvent}
+use Rattle.ledger.specs.Calls.{PushKind, isRelative, EditKind, endRelative}
 use Rattle.ledger.specs.Refusals.{statedEnd}
-use Rattle.ledger.specs.Steps.{newEvent}
-use Rattle.desk.specs.Claim.{isRelative, endRelative}
 use Rattle.refusals.specs.Refusals.{pushRefusal, editLimits}
 use Rattle.sequencer.specs.Parts.{withNext}
 use Rattle.realseq.specs.declared.SequencerBackend.{SequencerBackend}
 use Rattle.realseq.specs.declared.Outcome.{Outcome}
-use Rattle.realseq.specs.declared.Answer.the-variants.{Number, Queued, Done, Refused}
+use Rattle.desk.specs.Desk.{number, queued}
+use Rattle.realseq.specs.Answers.{said, refuses}
 use Rattle.realseq.specs.declared.queues.Message.{Message}
 use Rattle.realseq.specs.declared.queues.Message.the-variants.{Reset, Push, PushRelative, Edit as Amend, EditRelative}
 use Rattle.realseq.specs.Queues.{pushed, tallied, emptied}
@@ -30,9 +30,6 @@ queuedWith m d = record { sequencer = d .sequencer; messages = pushed (d .messag
 -- the next number has been given; after 2 ^ 64 - 1 it is 0
 unfoldable pub numbered : SequencerBackend → SequencerBackend
 numbered d = record { sequencer = withNext (d .sequencer) ((d .sequencer .next + 1) % 2 ^ 64); messages = d .messages; returned = d .returned }
-
-abbrev pub refuses : SequencerBackend → (number : ℕ) → Outcome
-refuses d k = record { backend = d; answer = Refused k }
 
 -- 13, where no other refusal applies
 abbrev pub orFull : SequencerBackend → (number : ℕ) → ℕ
@@ -59,7 +56,7 @@ sendsPush d relative start end until curve fade-in fade-out source =
     let no = pushRefused d start end (until -ᵈ start) fade-in fade-out source in
     let k = d .sequencer .next in
     cond (eqb no 0)
-    (record { backend = queuedWith (pushMessage relative (newEvent start until fade-in fade-out curve source k)) (numbered d); answer = Number (record { 0 = k }) })
+    (record { backend = queuedWith (pushMessage relative (newEvent start until fade-in fade-out curve source k)) (numbered d); answer = said (number k) })
     (refuses d no)
 
 unfoldable pub pushes : PushKind → SequencerBackend → (start end : Float) → Fade → (fade-in fade-out : Float) → Source → Outcome
@@ -83,7 +80,7 @@ unfoldable pub sendsEdit : SequencerBackend → (relative : Bool) → EventId �
 unfolding editRefused queuedWith
 sendsEdit d relative k end fade-out =
     let no = editRefused d end fade-out in
-    cond (eqb no 0) (record { backend = queuedWith (editMessage relative k (record { «end_time» = end; «fade_out» = fade-out })) d; answer = Queued }) (refuses d no)
+    cond (eqb no 0) (record { backend = queuedWith (editMessage relative k (record { «end_time» = end; «fade_out» = fade-out })) d; answer = said queued }) (refuses d no)
 
 abbrev pub edits : EditKind → SequencerBackend → EventId → (end fade-out : Float) → Outcome
 edits kind d k end fade-out = sendsEdit d (endRelative kind) k end fade-out
@@ -92,4 +89,4 @@ edits kind d k end fade-out = sendsEdit d (endRelative kind) k end fade-out
 
 unfoldable pub resets : SequencerBackend → Outcome
 unfolding queuedWith
-resets d = cond (leb 64 (d .messages .count)) (refuses d 13) (record { backend = queuedWith Reset d; answer = Queued })
+resets d = cond (leb 64 (d .messages .count)) (refuses d 13) (record { backend = queuedWith Reset d; answer = said queued })

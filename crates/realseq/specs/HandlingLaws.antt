@@ -27,10 +27,6 @@ unfolding restarted
 kept true d = refl
 kept false d = refl
 
-pub restarted-messages : (d : SequencerBackend) → restarted d .messages ≡ d .messages
-unfolding restarted
-restarted-messages d = refl
-
 -- once the messages are handled, none is queued
 pub handled-empty : (n : ℕ) (d : SequencerBackend) → d .messages .count ≡ n → handled n d .messages .count ≡ 0
 unfolding handled
@@ -42,20 +38,12 @@ pub drained-empty : (d : SequencerBackend) → drained d .messages .count ≡ 0
 unfolding drained
 drained-empty d = handled-empty (d .messages .count) d refl
 
-pub reset-empty : (d : SequencerBackend) → reset d .messages .count ≡ 0
-unfolding reset restarted
-reset-empty d = drained-empty d
-
 -- the slots stay as they are
 pub handled-slots : (n : ℕ) (d : SequencerBackend) → handled n d .messages .slots ≡ d .messages .slots
 unfolding handled
 handled-slots zero d = refl
 handled-slots (suc n) d =
     ap (λ (q : Messages). q .slots) (kept (isReset (peeked (d .messages))) (handled n (stepped d))) ∙ handled-slots n (stepped d) ∙ popped-slots (d .messages)
-
-pub drained-slots : (d : SequencerBackend) → drained d .messages .slots ≡ d .messages .slots
-unfolding drained
-drained-slots d = handled-slots (d .messages .count) d
 
 pub drained-none : (d : SequencerBackend) → d .messages .count ≡ 0 → drained d ≡ d
 unfolding drained handled
@@ -120,10 +108,6 @@ module _ (d : SequencerBackend) (some : d .messages .count ≡ 0 → ⊥) where
   unfolding reset taken
   drained-reset h = first-off ∙ ap (λ (b : Bool). cond b (restarted (drained (stepped d))) (drained (stepped d))) h
       ∙ ap (λ (s : Sequencer). restarted (drained (record { sequencer = s; messages = popped (d .messages); returned = d .returned }))) (acted-reset (peeked (d .messages)) (d .sequencer) h)
-
-  -- another is first: it acts at once
-  pub drained-other : isReset (peeked (d .messages)) ≡ false → drained d ≡ drained (stepped d)
-  drained-other h = first-off ∙ ap (λ (b : Bool). cond b (restarted (drained (stepped d))) (drained (stepped d))) h
 
 -- ---- up to the first reset: none is queued then, or a reset is first, and what the messages come to is the same
 

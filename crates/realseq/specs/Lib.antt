@@ -1,3 +1,4 @@
+pub mod Answers
 pub mod Queues
 pub mod QueueLaws
 pub mod Handling

@@ -11,7 +11,6 @@ use event::Event;
 use event::EventId;
 use event::Fade;
 use event::Source;
-use event::Unit;
 use refusals::edit_limits;
 use refusals::held;
 use refusals::push_refusal;
@@ -104,15 +103,7 @@ impl SequencerBackend {
         }
         let s = self.sequencer;
         let id = EventId(s.next);
-        let event = Event {
-            start_time,
-            end_time: until,
-            fade_ease,
-            fade_in,
-            fade_out,
-            unit: Unit::new(source),
-            id,
-        };
+        let event = Event::new(start_time, until, fade_in, fade_out, fade_ease, source, id);
         let mut d = self.take_number();
         if relative {
             d = d.send(Message::PushRelative(event));

@@ -8,6 +8,7 @@ use crate::SequencerBackend;
 use event::Edit;
 use event::ReplayMode;
 use ready::Ready;
+use runs::least;
 use sequencer::Sequencer;
 
 // One message; a reset is handled elsewhere, and an edit's answer is dropped.
@@ -33,18 +34,12 @@ fn handle(sequencer: Sequencer, message: Message) -> Sequencer
     }
 }
 
-fn capped(n: usize) -> usize
-    ensures { λ r. ⌜ r ≡ min n 256 ⌝ }
-{
-    if n < 256 { n } else { 256 }
-}
-
 impl Returned {
     // The numbers of the finished, from the end.
     fn push_past(mut self, s: Sequencer) -> Returned
         ensures { λ r. ⌜ r ≡ sentDown (min (s .«past_len») 256) (s .past) self ⌝ }
     {
-        let mut i = capped(s.past_len);
+        let mut i = least(s.past_len, 256);
         while i > 0 {
             i = i - 1;
             let event = s.past[i];
@@ -63,7 +58,7 @@ impl Returned {
             items: items,
             len: s.ready_len,
         };
-        let mut i = capped(s.ready_len);
+        let mut i = least(s.ready_len, 256);
         while i > 0 {
             i = i - 1;
             let event = heap.peek();
@@ -78,7 +73,7 @@ impl Returned {
     fn push_active(mut self, s: Sequencer) -> Returned
         ensures { λ r. ⌜ r ≡ sentDown (min (s .«active_len») 256) (s .active) self ⌝ }
     {
-        let mut i = capped(s.active_len);
+        let mut i = least(s.active_len, 256);
         while i > 0 {
             i = i - 1;
             let event = s.active[i];

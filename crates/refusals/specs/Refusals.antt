@@ -6,13 +6,11 @@ use lib.Ieee.{Float, lt, le}
 use Rattle.event.specs.declared.EventId.{EventId}
 use Rattle.event.specs.declared.Source.{Source}
 use Rattle.floats.specs.Arithmetic.{_+ᵈ_, _×ᵈ_, _<ᶠ_, _≤ᶠ_, oneᶠ, whole}
-use Rattle.lists.specs.declared.ActiveMap.{ActiveMap}
 use Rattle.lists.specs.declared.EditMap.{EditMap}
 use Rattle.lists.specs.declared.Found.{Found}
 use Rattle.lists.specs.declared.Found.the-variants.{At, Nothing}
 use Rattle.lists.specs.declared.FoundEdit.{FoundEdit}
 use Rattle.lists.specs.declared.FoundEdit.the-variants.{Stored, Missing}
-use Rattle.lists.specs.Index.{foundId}
 use Rattle.lists.specs.Edits.{foundEdit}
 use Rattle.ledger.specs.Refusals.{within, withinEnd, finiteSource}
 
@@ -31,16 +29,16 @@ roomless Nothing true f n = false
 roomless Nothing false (Stored d) n = false
 roomless Nothing false Missing n = leb 256 n
 
-unfoldable pub noRoom : ActiveMap → EditMap → (threshold : Float) → EventId → (end : Float) → Bool
+unfoldable pub noRoom : Found → EditMap → (threshold : Float) → EventId → (end : Float) → Bool
 unfolding roomless
-noRoom index edits θ k end = roomless (foundId index k) (end <ᶠ θ) (foundEdit edits k) (edits .len)
+noRoom found edits θ k end = roomless found (end <ᶠ θ) (foundEdit edits k) (edits .len)
 
 unfoldable pub editLimits : (end fade-out : Float) → ℕ
 editLimits end fade-out = cond (not (withinEnd end && within fade-out)) 8 0
 
-unfoldable pub editRefusal : ActiveMap → EditMap → (threshold : Float) → EventId → (end until fade-out : Float) → ℕ
+unfoldable pub editRefusal : Found → EditMap → (threshold : Float) → EventId → (end until fade-out : Float) → ℕ
 unfolding noRoom
-editRefusal index edits θ k end until fade-out = cond (not (withinEnd end && within fade-out)) 8 (cond (noRoom index edits θ k until) 9 0)
+editRefusal found edits θ k end until fade-out = cond (not (withinEnd end && within fade-out)) 8 (cond (noRoom found edits θ k until) 9 0)
 
 unfoldable pub tickRefusal : (len outputs : ℕ) → (time duration : Float) → ℕ
 tickRefusal len outputs t d = cond (not (eqb len outputs)) 10 (cond (not (t +ᵈ d ≤ᶠ whole 1_000_000_000)) 12 0)

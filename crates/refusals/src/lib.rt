@@ -1,4 +1,5 @@
 // The refusals of document 01 that are the engine's, in their order: a number, or 0 where none applies. They take no engine, so that the desk and the tape can ask them too.
+ghost use mathlib.Core.Bool.{_&&_};
 ghost use mathlib.Core.Path.{_≡_};
 ghost use Prim.Native.Nat.{min, _+_};
 ghost use lib.Ieee.Scale.{finite as isFinite};
@@ -6,7 +7,6 @@ ghost use Rattle.ledger.specs.Refusals as Limits;
 ghost use Rattle.refusals.specs.Refusals.{pushRefusal, noRoom, editLimits, editRefusal, tickRefusal, processRefusal, rateRefusal};
 use event::EventId;
 use event::Source;
-use lists::ActiveMap;
 use lists::EditMap;
 use lists::Found;
 use lists::FoundEdit;
@@ -15,31 +15,22 @@ use lists::FoundEdit;
 fn within(x: f64) -> bool
     ensures { λ r. ⌜ r ≡ Limits.within x ⌝ }
 {
-    if -1000000000.0 <= x {
-        return x <= 1000000000.0;
-    }
-    false
+    -1000000000.0 <= x && x <= 1000000000.0
 }
 
 // The same, or +infinity.
 fn within_end(x: f64) -> bool
     ensures { λ r. ⌜ r ≡ Limits.withinEnd x ⌝ }
 {
-    if within(x) {
-        return true;
-    }
     let top: f64 = 1.0 / 0.0;
-    x == top
+    within(x) || x == top
 }
 
 fn finite(x: f32) -> bool
     ensures { λ r. ⌜ r ≡ isFinite x ⌝ }
 {
     let top: f32 = 1.0 / 0.0;
-    if x < top {
-        return -top < x;
-    }
-    false
+    x < top && -top < x
 }
 
 fn finite_source(source: Source) -> bool
@@ -47,31 +38,30 @@ fn finite_source(source: Source) -> bool
 {
     match source {
         Source::Held(level) => finite(level),
-        Source::Ramp(value, step) => {
-            if finite(value) {
-                return finite(step);
-            }
-            false
-        }
+        Source::Ramp(value, step) => finite(value) && finite(step),
         Source::Clip(_, _) => true,
     }
+}
+
+// The lesser of `n` and 256.
+fn capped(n: usize) -> usize
+    ensures { λ r. ⌜ r ≡ min n 256 ⌝ }
+{
+    if 256 <= n { 256 } else { n }
 }
 
 // How many events three lists hold, at most 256.
 pub fn held(a: usize, b: usize, c: usize) -> usize
     ensures { λ r. ⌜ r ≡ min (a + (b + c)) 256 ⌝ }
 {
-    if 256 <= a {
-        return 256;
-    }
-    if 256 <= b {
-        return 256;
-    }
-    if 256 <= c {
-        return 256;
-    }
-    let sum = a + (b + c);
-    if 256 <= sum { 256 } else { sum }
+    capped(capped(a) + (capped(b) + capped(c)))
+}
+
+// A push's times and fades keep the limit; only its end may be +infinity.
+fn times_within(start: f64, end: f64, fade_in: f64, fade_out: f64) -> bool
+    ensures { λ r. ⌜ r ≡ (Limits.within start && Limits.withinEnd end && Limits.within «fade_in» && Limits.within «fade_out») ⌝ }
+{
+    within(start) && within_end(end) && within(fade_in) && within(fade_out)
 }
 
 // Of a push: 3 to 7. `end` is the end or the duration as given, `lasts` is end - start, `held` how many events are held, `next` the next number.
@@ -87,22 +77,10 @@ pub fn push_refusal(
 ) -> u64
     ensures { λ r. ⌜ r ≡ pushRefusal start end lasts «fade_in» «fade_out» source held next ⌝ }
 {
-    if !within(start) {
+    if !times_within(start, end, fade_in, fade_out) {
         return 3;
     }
-    if !within_end(end) {
-        return 3;
-    }
-    if !within(fade_in) {
-        return 3;
-    }
-    if !within(fade_out) {
-        return 3;
-    }
-    if lasts < fade_in {
-        return 4;
-    }
-    if lasts < fade_out {
+    if lasts < fade_in || lasts < fade_out {
         return 4;
     }
     if !finite_source(source) {
@@ -118,10 +96,9 @@ pub fn push_refusal(
 }
 
 // An edit would have to be stored for a number that has none, and 256 are stored.
-fn no_room(index: ActiveMap, edits: EditMap, threshold: f64, id: EventId, end: f64) -> bool
-    ensures { λ r. ⌜ r ≡ noRoom index edits threshold id end ⌝ }
+fn no_room(found: Found, edits: EditMap, threshold: f64, id: EventId, end: f64) -> bool
+    ensures { λ r. ⌜ r ≡ noRoom found edits threshold id end ⌝ }
 {
-    let found = index.find(id);
     match found {
         Found::At(_) => false,
         Found::Nothing => {
@@ -129,8 +106,7 @@ fn no_room(index: ActiveMap, edits: EditMap, threshold: f64, id: EventId, end: f
                 return false;
             }
             let n = edits.len;
-            let stored = edits.find(id);
-            match stored {
+            match edits.find(id) {
                 FoundEdit::Stored(_) => false,
                 FoundEdit::Missing => 256 <= n,
             }
@@ -142,18 +118,16 @@ fn no_room(index: ActiveMap, edits: EditMap, threshold: f64, id: EventId, end: f
 pub fn edit_limits(end: f64, fade_out: f64) -> u64
     ensures { λ r. ⌜ r ≡ editLimits end «fade_out» ⌝ }
 {
-    if !within_end(end) {
-        return 8;
+    if within_end(end) && within(fade_out) {
+        0
+    } else {
+        8
     }
-    if !within(fade_out) {
-        return 8;
-    }
-    0
 }
 
 // Of an edit: 8 and 9. `end` is the end as given, `until` the same with the clock added where it is relative.
 pub fn edit_refusal(
-    index: ActiveMap,
+    found: Found,
     edits: EditMap,
     threshold: f64,
     id: EventId,
@@ -161,13 +135,13 @@ pub fn edit_refusal(
     until: f64,
     fade_out: f64,
 ) -> u64
-    ensures { λ r. ⌜ r ≡ editRefusal index edits threshold id end until «fade_out» ⌝ }
+    ensures { λ r. ⌜ r ≡ editRefusal found edits threshold id end until «fade_out» ⌝ }
 {
     let no = edit_limits(end, fade_out);
     if no != 0 {
         return no;
     }
-    if no_room(index, edits, threshold, id, until) {
+    if no_room(found, edits, threshold, id, until) {
         return 9;
     }
     0
@@ -196,10 +170,7 @@ pub fn process_refusal(
 ) -> u64
     ensures { λ r. ⌜ r ≡ processRefusal size len outputs time «sample_duration» ⌝ }
 {
-    if len % 64 != 0 {
-        return 10;
-    }
-    if len / 64 != outputs {
+    if len % 64 != 0 || len / 64 != outputs {
         return 10;
     }
     if 64 < size {
@@ -215,11 +186,9 @@ pub fn process_refusal(
 pub fn rate_refusal(rate: f64) -> u64
     ensures { λ r. ⌜ r ≡ rateRefusal rate ⌝ }
 {
-    if !(1.0 <= rate) {
-        return 2;
+    if 1.0 <= rate && rate <= 1000000.0 {
+        0
+    } else {
+        2
     }
-    if !(rate <= 1000000.0) {
-        return 2;
-    }
-    0
 }

@@ -19,7 +19,7 @@ use Rattle.tape.specs.declared.reader.Read.{Read}
 use Rattle.tape.specs.declared.reader.Read.the-variants.{Record, Refused, End}
 use Rattle.tape.specs.Tape.{readAt, recordOf, unknown, pushKind, sizeOf, sizes, kindOf, callOf, modeByte, curveByte, sourceByte}
 use Rattle.tape.specs.Fields.{Bytes, bytes-drop, field-below}
-use Rattle.tape.specs.Putting.{Putting, begin, further, ended, left-is, place-is}
+use Rattle.listing.specs.Putting.{Putting, begin, further, ended, left-is, place-is}
 use Rattle.apply.specs.declared.Applied.{Applied}
 use Rattle.tape.specs.Pool.{trailPool}
 use Rattle.apply.specs.Applying.{appliedTo, appliedOut}

@@ -8,7 +8,7 @@ use native.Mathlib.Omega.{arith}
 use lib.Ieee.{Float, binary32, toBits}
 use lib.ListN.{length, getD, take, drop, length-drop}
 use lib.Seq.{sets, drop-cons, drop-drop, length-take-le}
-use Rattle.tape.specs.Putting.{Putting, begin, further, ended, left-is, place-is}
+use Rattle.listing.specs.Putting.{Putting, begin, further, ended, left-is, place-is}
 use Rattle.render.specs.Bytes.{littleEndian, bytesOf, length-bytes, bytes-append}
 use Rattle.render.specs.Playing.{channelsOf}
 

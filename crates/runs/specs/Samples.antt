@@ -9,7 +9,7 @@ use Rattle.event.specs.declared.Fade.{Fade}
 use Rattle.event.specs.Fades.{curve}
 use Rattle.event.specs.Runs.{made}
 use Rattle.floats.specs.Arithmetic.{_+ˢ_, _-ˢ_, _×ˢ_, zeroᶠ, oneᶠ}
-use Rattle.runs.specs.Walk.{walk, zipped}
+use Rattle.runs.specs.Walk.{zipped}
 
 -- x, x + step, ..
 abbrev pub chain : (step x : Float) → ℕ → List Float
@@ -26,10 +26,6 @@ phasesOf rising phase step k = made (facing rising) (λ y. y +ˢ step) phase k
 -- sample k times the curve at xs k
 abbrev pub shaped : Fade → (xs l : List Float) → List Float
 shaped c xs l = zipped (λ a y. a ×ˢ curve c y) xs l
-
--- the plain form of a fade: every sample times the curve at the phase, which grows by step
-abbrev pub fadedAll : Fade → (rising : Bool) → (phase step : Float) → List Float → List Float
-fadedAll c rising phase step l = walk (λ y a. a ×ˢ curve c (facing rising y)) (λ y. y +ˢ step) phase l
 
 -- how many of a clip's next k samples the clip and the pool have, and the samples: 0 past these
 abbrev pub clipHas : (pool : List Float) → (offset length place k : ℕ) → ℕ

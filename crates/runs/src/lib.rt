@@ -8,15 +8,13 @@ ghost use lib.ListN.{length, take, drop, replicate};
 ghost use Rattle.event.specs.Runs.{steps};
 ghost use Rattle.event.specs.Sources.{given, advancedBy};
 ghost use Rattle.floats.specs.Arithmetic.{_+ˢ_, _-ˢ_, zeroᶠ, oneᶠ};
-ghost use Rattle.ledger.specs.BlockSamples.{faded, addAt, overlay};
+ghost use Rattle.ledger.specs.BlockSamples.{fadedAll, faded, addAt, overlay};
 ghost use Rattle.runs.specs.Walk.{zipped};
 ghost use Rattle.runs.specs.Samples as Samples;
-ghost use Rattle.runs.specs.Samples.{chain, phasesOf, shaped, fadedAll, clipRun};
+ghost use Rattle.runs.specs.Samples.{chain, phasesOf, shaped, clipRun};
 use event::Fade;
 use event::Source;
 use event::Unit;
-use math::sine_ease;
-use math::smooth5;
 
 pub fn least(a: usize, b: usize) -> usize
     ensures { λ r. ⌜ r ≡ min a b ⌝ }
@@ -157,35 +155,14 @@ fn phases(s: &mut [f32], rising: bool, phase: f32, step: f32)
     flip(s);
 }
 
-fn shape_power(s: &mut [f32], xs: &[f32])
-    requires { ⌜ length (now s) ≤ length (now xs) ⌝ }
-    ensures { λ _. ⌜ now (s .exit) ≡ shaped Fade.Power (now (xs .entry)) (now (s .entry)) ⌝ }
-{
-    let mut i = 0;
-    while i < s.len() {
-        s[i] = s[i] * sine_ease(xs[i]);
-        i += 1;
-    }
-}
-
-fn shape_smooth(s: &mut [f32], xs: &[f32])
-    requires { ⌜ length (now s) ≤ length (now xs) ⌝ }
-    ensures { λ _. ⌜ now (s .exit) ≡ shaped Fade.Smooth (now (xs .entry)) (now (s .entry)) ⌝ }
-{
-    let mut i = 0;
-    while i < s.len() {
-        s[i] = s[i] * smooth5(xs[i]);
-        i += 1;
-    }
-}
-
 fn shape(s: &mut [f32], xs: &[f32], ease: Fade)
     requires { ⌜ length (now s) ≤ length (now xs) ⌝ }
     ensures { λ _. ⌜ now (s .exit) ≡ shaped ease (now (xs .entry)) (now (s .entry)) ⌝ }
 {
-    match ease {
-        Fade::Power => shape_power(s, xs),
-        Fade::Smooth => shape_smooth(s, xs),
+    let mut i = 0;
+    while i < s.len() {
+        s[i] = s[i] * ease.at(xs[i]);
+        i += 1;
     }
 }
 

@@ -1,21 +1,39 @@
--- Document 01's numbers and values for the cases of `Answer`.
+-- Document 01's numbers and values for the cases of `Answer`. Every definition of an outcome names its answer by `said`, and the claim reads it back by `answerOf`.
 use Prim.Native.Nat.{ℕ}
-use Rattle.ledger.specs.Calls as Ledger
+use mathlib.Core.Path.{_≡_, refl}
+use Rattle.ledger.specs.Calls as Calls
+use Rattle.ledger.specs.Calls.{number, applied, past, stored, done, refused}
 use Rattle.sequencer.specs.declared.Sequencer.{Sequencer}
 use Rattle.sequencer.specs.declared.Outcome.{Outcome}
 use Rattle.sequencer.specs.declared.Answer.{Answer}
 use Rattle.sequencer.specs.declared.Answer.the-variants.{Number, Applied, Past, Stored, Done, Refused}
 
-abbrev pub answerOf : Answer → Ledger.Answer
-answerOf (Number k) = Ledger.number (k .0)
-answerOf Applied = Ledger.applied
-answerOf Past = Ledger.past
-answerOf Stored = Ledger.stored
-answerOf Done = Ledger.done
-answerOf (Refused k) = Ledger.refused k
+abbrev pub said : Calls.Answer → Answer
+said (number k) = Number (record { 0 = k })
+said applied = Applied
+said past = Past
+said stored = Stored
+said done = Done
+said (refused k) = Refused k
+
+abbrev pub answerOf : Answer → Calls.Answer
+answerOf (Number k) = number (k .0)
+answerOf Applied = applied
+answerOf Past = past
+answerOf Stored = stored
+answerOf Done = done
+answerOf (Refused k) = refused k
+
+pub read-back : (a : Calls.Answer) → answerOf (said a) ≡ a
+read-back (number k) = refl
+read-back applied = refl
+read-back past = refl
+read-back stored = refl
+read-back done = refl
+read-back (refused k) = refl
 
 abbrev pub accepts : Sequencer → Outcome
-accepts s = record { sequencer = s; answer = Done }
+accepts s = record { sequencer = s; answer = said done }
 
 abbrev pub refuses : Sequencer → (number : ℕ) → Outcome
-refuses s k = record { sequencer = s; answer = Refused k }
+refuses s k = record { sequencer = s; answer = said (refused k) }

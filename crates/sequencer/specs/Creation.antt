@@ -11,7 +11,7 @@ use Rattle.lists.specs.Edits as Edits
 use Rattle.floats.specs.Arithmetic.{_÷ᵈ_, zeroᶠ, oneᶠ, -∞, whole}
 use Rattle.sequencer.specs.declared.Sequencer.{Sequencer}
 use Rattle.sequencer.specs.declared.Outcome.{Outcome}
-use Rattle.sequencer.specs.declared.Answer.the-variants.{Done, Refused}
+use Rattle.sequencer.specs.Answers.{accepts, refuses}
 
 unfoldable pub freshEngine : (outputs : ℕ) → ReplayMode → (first : ℕ) → Sequencer
 unfolding whole
@@ -34,9 +34,10 @@ freshEngine c m k = record {
   «let_go» = 0;
 }
 
+-- 1: the channels are not 1 to 8, or the first number is 0
+abbrev pub refusesCreation : (outputs first : ℕ) → Bool
+refusesCreation c k = ltb c 1 || ltb 8 c || eqb k 0
+
 unfoldable pub created : (outputs : ℕ) → ReplayMode → (first : ℕ) → Outcome
 unfolding freshEngine
-created c m k =
-    cond (ltb c 1 || ltb 8 c || eqb k 0)
-    (record { sequencer = freshEngine 1 All 1; answer = Refused 1 })
-    (record { sequencer = freshEngine c m k; answer = Done })
+created c m k = cond (refusesCreation c k) (refuses (freshEngine 1 All 1) 1) (accepts (freshEngine c m k))

@@ -50,27 +50,6 @@ pushedPast s e =
     let n = s .«past_len» in
     cond (ltb n 256) (withPast s (set (s .past) n e) (n + 1)) s
 
--- ---- a push
-
-unfoldable pub pushedEvent : Sequencer → Event → Sequencer
-unfolding pushedReady pushedActive
-pushedEvent s e = cond (lt (e .«start_time») (s .«active_threshold»)) (pushedActive s e) (pushedReady s e)
-
-abbrev pub shifted : (t : Float) → Event → Event
-shifted t e = record {
-  «start_time» = e .«start_time» +ᵈ t;
-  «end_time» = e .«end_time» +ᵈ t;
-  «fade_ease» = e .«fade_ease»;
-  «fade_in» = e .«fade_in»;
-  «fade_out» = e .«fade_out»;
-  unit = e .unit;
-  id = e .id;
-}
-
-unfoldable pub pushedRelative : Sequencer → Event → Sequencer
-unfolding pushedEvent
-pushedRelative s e = pushedEvent s (shifted (s .time) e)
-
 -- ---- the heap's first becomes active, with its edit
 
 unfoldable pub activatedBy : Sequencer → Event → FoundEdit → Sequencer
@@ -81,6 +60,29 @@ activatedBy s e Missing = pushedActive (poppedReady s) e
 unfoldable pub activated : Sequencer → Event → Sequencer
 unfolding activatedBy
 activated s e = activatedBy s e (foundEdit (s .«edit_map») (e .id))
+
+-- ---- a push
+
+unfoldable pub pushedEvent : Sequencer → Event → Sequencer
+unfolding pushedReady pushedActive
+pushedEvent s e = cond (lt (e .«start_time») (s .«active_threshold»)) (pushedActive s e) (pushedReady s e)
+
+abbrev pub shifted : (t : Float) → Event → Event
+shifted t e = record {
+  «start_time» = e .«start_time» +ᵈ t;
+  «end_time» = e .«end_time» +ᵈ t;
+  «fade_in» = e .«fade_in»;
+  «fade_out» = e .«fade_out»;
+  «fade_ease» = e .«fade_ease»;
+  unit = e .unit;
+  id = e .id;
+}
+
+unfoldable pub pushedRelative : Sequencer → Event → Sequencer
+unfolding pushedEvent
+pushedRelative s e = pushedEvent s (shifted (s .time) e)
+
+-- ---- the beginning of a tick or a block
 
 -- at most f times
 unfoldable pub activates : (f : ℕ) → Sequencer → Sequencer
@@ -126,15 +128,19 @@ advanced s e =
 
 -- ---- everything waits again
 
--- f of the events of xs, from place i on
-unfoldable pub toReady : (f : ℕ) → (xs : List Event) → (i : ℕ) → Sequencer → Sequencer
+-- the event at place i: of the p finished, and behind these of the sounding
+abbrev pub heldAt : (p : ℕ) → Sequencer → (i : ℕ) → Event
+heldAt p s i = cond (ltb i p) (getD (s .past) i blank) (getD (s .active) (i - p) blank)
+
+-- f of them, from place i on
+unfoldable pub toReady : (f p i : ℕ) → Sequencer → Sequencer
 unfolding pushedReady
-toReady zero xs i s = s
-toReady (suc f) xs i s = toReady f xs (suc i) (pushedReady s (getD xs i blank))
+toReady zero p i s = s
+toReady (suc f) p i s = toReady f p (suc i) (pushedReady s (heldAt p s i))
 
 unfoldable pub allToReady : Sequencer → Sequencer
 unfolding toReady
 allToReady s =
-    let a = toReady (min (s .«past_len») 256) (s .past) 0 s in
-    let b = toReady (min (a .«active_len») 256) (a .active) 0 a in
-    withActive (withPast b (b .past) 0) (b .active) (b .«active_map») 0
+    let p = min (s .«past_len») 256 in
+    let a = toReady (p + min (s .«active_len») 256) p 0 s in
+    withActive (withPast a (a .past) 0) (a .active) (a .«active_map») 0

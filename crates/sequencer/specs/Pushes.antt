@@ -7,16 +7,16 @@ use Rattle.event.specs.declared.Event.{Event}
 use Rattle.event.specs.declared.Fade.{Fade}
 use Rattle.event.specs.declared.Source.{Source}
 use Rattle.floats.specs.Arithmetic.{_-ᵈ_}
-use Rattle.ledger.specs.Calls.{PushKind}
+use Rattle.event.specs.Events.{newEvent}
+use Rattle.ledger.specs.Calls.{PushKind, number}
 use Rattle.ledger.specs.Refusals.{statedEnd}
-use Rattle.ledger.specs.Steps.{pushedTime, newEvent}
+use Rattle.ledger.specs.Steps.{pushedTime}
 use Rattle.sequencer.specs.declared.Sequencer.{Sequencer}
 use Rattle.sequencer.specs.declared.Outcome.{Outcome}
-use Rattle.sequencer.specs.declared.Answer.the-variants.{Number}
 use Rattle.sequencer.specs.Parts.{withNext}
 use Rattle.sequencer.specs.Moves.{pushedEvent}
 use Rattle.refusals.specs.Refusals.{pushRefusal}
-use Rattle.sequencer.specs.Answers.{refuses}
+use Rattle.sequencer.specs.Answers.{said, refuses}
 
 -- the event enters, and the next number is taken
 abbrev pub enters : Sequencer → Event → Sequencer
@@ -26,14 +26,18 @@ unfoldable pub admitted : Sequencer → (start end : Float) → Fade → (fade-i
 unfolding pushedEvent
 admitted s start end curve fade-in fade-out source = record {
   sequencer = enters s (newEvent start end fade-in fade-out curve source (s .next));
-  answer = Number (record { 0 = s .next });
+  answer = said (number (s .next));
 }
 
-unfoldable pub pushes : PushKind → Sequencer → (start end : Float) → Fade → (fade-in fade-out : Float) → Source → Outcome
-unfolding admitted pushRefusal statedEnd pushedTime
-pushes kind s start end curve fade-in fade-out source =
+-- `start` and `end` are as given, `lasts` is end - start, and the event is to last from `from` to `until`
+unfoldable pub pushesTo : Sequencer → (start end lasts from until : Float) → Fade → (fade-in fade-out : Float) → Source → Outcome
+unfolding admitted pushRefusal
+pushesTo s start end lasts from until curve fade-in fade-out source =
     let held = min (s .«ready_len» + (s .«active_len» + s .«past_len»)) 256 in
-    let no = pushRefusal start end (statedEnd kind start end -ᵈ start) fade-in fade-out source held (s .next) in
-    cond (eqb no 0)
-    (admitted s (pushedTime kind (s .time) start) (pushedTime kind (s .time) (statedEnd kind start end)) curve fade-in fade-out source)
-    (refuses s no)
+    let no = pushRefusal start end lasts fade-in fade-out source held (s .next) in
+    cond (eqb no 0) (admitted s from until curve fade-in fade-out source) (refuses s no)
+
+unfoldable pub pushes : PushKind → Sequencer → (start end : Float) → Fade → (fade-in fade-out : Float) → Source → Outcome
+unfolding pushesTo statedEnd pushedTime
+pushes kind s start end curve fade-in fade-out source =
+    pushesTo s start end (statedEnd kind start end -ᵈ start) (pushedTime kind (s .time) start) (pushedTime kind (s .time) (statedEnd kind start end)) curve fade-in fade-out source

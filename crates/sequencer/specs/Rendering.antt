@@ -11,7 +11,7 @@ use Rattle.event.specs.declared.ReplayMode.the-variants.{All, None}
 use Rattle.event.specs.Events.{blank}
 use Rattle.floats.specs.Arithmetic.{_+ᵈ_, _×ᵈ_, _+ˢ_, _<ᶠ_, zeroᶠ, whole}
 use Rattle.ledger.specs.TickSamples.{tickSample, afterTick}
-use Rattle.ledger.specs.BlockSamples as Ledger
+use Rattle.ledger.specs.BlockSamples as Block
 use Rattle.ledger.specs.BlockSamples.{channelAfter, afterBlock, overlay}
 use Rattle.mixing.specs.Blocks.{clearedPlaces}
 use Rattle.sequencer.specs.declared.Sequencer.{Sequencer}
@@ -81,13 +81,13 @@ abbrev pub blockEnd : Sequencer → (n : ℕ) → Float
 blockEnd s n = s .time +ᵈ s .«sample_duration» ×ᵈ whole n
 
 -- of a size above 64, 64 count
-abbrev pub spanOf : Sequencer → (n : ℕ) → Ledger.Span
+abbrev pub spanOf : Sequencer → (n : ℕ) → Block.Span
 spanOf s n = record { size = min 64 n; clock = s .time; upto = blockEnd s n; rate = s .«sample_rate»; duration = s .«sample_duration» }
 
-abbrev pub addBlock : (pool : List Float) → Ledger.Span → (channel : List Float) → Event → List Float
+abbrev pub addBlock : (pool : List Float) → Block.Span → (channel : List Float) → Event → List Float
 addBlock pool b channel e = channelAfter pool b e channel
 
-unfoldable pub blockPass : (pool : List Float) → Ledger.Span → (n : ℕ) → Sequencer → Passed Event (List Float)
+unfoldable pub blockPass : (pool : List Float) → Block.Span → (n : ℕ) → Sequencer → Passed Event (List Float)
 unfolding passes
 blockPass pool b n a = passes (afterBlock b) (addBlock pool b) blank (min (a .«active_len») 256) (a .active) 0 (replicate (clearedPlaces n) zeroᶠ)
 

@@ -130,11 +130,11 @@ or-right true false h = refl
 or-right false b h = h
 
 -- r is what `lists_change` returns; only the clock and the threshold change
-pub steady : {s : Sequencer} {k n : ℕ} {r : Bool} (e : Float) → Scanning (s .time +ᵈ halfᶠ ×ᵈ s .«sample_duration») s n k
-    → (r ≡ listsChange (ltb k n) (s .mode) (s .«past_len») (s .«ready_len») (getD (s .ready) 0 blank .«start_time») (e -ᵈ s .«sample_duration» ×ᵈ halfᶠ)) × (s .«let_go» < 2 ^ 64)
+pub steady : {s : Sequencer} {k n : ℕ} {r : Bool} (e : Float) → s .«let_go» < 2 ^ 64 → Scanning (s .time +ᵈ halfᶠ ×ᵈ s .«sample_duration») s n k
+    → r ≡ listsChange (ltb k n) (s .mode) (s .«past_len») (s .«ready_len») (getD (s .ready) 0 blank .«start_time») (e -ᵈ s .«sample_duration» ×ᵈ halfᶠ)
     → r ≡ false → withTimes s e (e -ᵈ s .«sample_duration» ×ᵈ halfᶠ) ≡ advanced s e
 unfolding advanced readyToActive activeToPast listsChange
-steady {s} {k} {n} e q c f = sym (ap F p ∙ ap G w ∙ ap H z)
+steady {s} {k} {n} e fits q c f = sym (ap F p ∙ ap G w ∙ ap H z)
   where
     θ : Float
     θ = e -ᵈ s .«sample_duration» ×ᵈ halfᶠ
@@ -146,7 +146,7 @@ steady {s} {k} {n} e q c f = sym (ap F p ∙ ap G w ∙ ap H z)
     starts = not (eqb (s .«ready_len») 0) && getD (s .ready) 0 blank .«start_time» <ᶠ θ
 
     none : (ltb k n || (starts || releases (s .mode) (s .«past_len»))) ≡ false
-    none = sym (c .0) ∙ f
+    none = sym c ∙ f
 
     more : (starts || releases (s .mode) (s .«past_len»)) ≡ false
     more = or-right (ltb k n) (starts || releases (s .mode) (s .«past_len»)) none
@@ -170,7 +170,7 @@ steady {s} {k} {n} e q c f = sym (ap F p ∙ ap G w ∙ ap H z)
     S = withTimes s (s .time) θ
 
     p : releasedPast s (s .mode) ≡ s
-    p = none-leaves s (s .mode) (c .1) (or-right starts (releases (s .mode) (s .«past_len»)) more)
+    p = none-leaves s (s .mode) fits (or-right starts (releases (s .mode) (s .«past_len»)) more)
 
     w : activates (s .«ready_len») S ≡ S
     w = none-starts S (or-left starts (releases (s .mode) (s .«past_len»)) more)

@@ -17,7 +17,7 @@ use Rattle.lists.specs.declared.FoundEdit.the-variants.{Stored, Missing}
 use Rattle.lists.specs.Edits.{foundEdit, removed}
 use Rattle.sequencer.specs.declared.Sequencer.{Sequencer}
 use Rattle.sequencer.specs.Parts.{withEdits}
-use Rattle.sequencer.specs.Moves.{pushedReady, poppedReady, pushedActive, swapRemoved, pushedPast, activated, activatedBy, activates, finishes, toReady}
+use Rattle.sequencer.specs.Moves.{pushedReady, poppedReady, pushedActive, swapRemoved, pushedPast, activated, activatedBy, activates, finishes, heldAt, toReady}
 
 cond-same : {A B : Type 0} (f : A → B) (b : Bool) (x y : A) → f x ≡ f y → f (cond b x y) ≡ f y
 cond-same f true x y h = h
@@ -136,27 +136,26 @@ module _ (limit : Float) (s : Sequencer) (i : ℕ) (r : Sequencer) where
       go zero e g = absurd (omega arith)
       go (suc f) e g = record { fuel = f; enough = omega (arith, finished-len s i (getD (s .active) i blank) p q); gives = sym (turn f) ∙ g }
 
--- ---- events of a list wait again
+-- ---- everything waits again
 
-pub record Readying (n : ℕ) (xs : List Event) (i : ℕ) (s r : Sequencer) : Type 0 where
+pub record Readying (n p i : ℕ) (s r : Sequencer) : Type 0 where
   pub fuel : ℕ
   pub exact : i + fuel ≡ n
-  pub gives : toReady fuel xs i s ≡ r
+  pub gives : toReady fuel p i s ≡ r
 
-module _ (n : ℕ) (xs : List Event) (i : ℕ) (s r : Sequencer) where
-  -- ys is the engine's list, which a push to the heap leaves as it is
-  pub readying-on : (ys : List Event) (t : Sequencer) → ys ≡ xs → t ≡ pushedReady s (getD ys i blank) → i < n → Readying n xs i s r → Readying n xs (i + 1) t r
+module _ (n p i : ℕ) (s r : Sequencer) where
+  pub readying-on : (e : Event) (t : Sequencer) → e ≡ heldAt p s i → t ≡ pushedReady s e → i < n → Readying n p i s r → Readying n p (i + 1) t r
   unfolding toReady
-  readying-on ys t same made l w = rw (made, same) (go (w .fuel) (w .exact) (w .gives))
+  readying-on e t here made l w = rw (made, here) (go (w .fuel) (w .exact) (w .gives))
     where
-      go : (f : ℕ) → i + f ≡ n → toReady f xs i s ≡ r → Readying n xs (i + 1) (pushedReady s (getD xs i blank)) r
+      go : (f : ℕ) → i + f ≡ n → toReady f p i s ≡ r → Readying n p (i + 1) (pushedReady s (heldAt p s i)) r
       go zero e g = absurd (omega arith)
       go (suc f) e g = rw add-one (record { fuel = f; exact = omega arith; gives = g })
 
-  pub readied : n ≤ i → Readying n xs i s r → s ≡ r
+  pub readied : n ≤ i → Readying n p i s r → s ≡ r
   unfolding toReady
   readied l w = go (w .fuel) (w .exact) (w .gives)
     where
-      go : (f : ℕ) → i + f ≡ n → toReady f xs i s ≡ r → s ≡ r
+      go : (f : ℕ) → i + f ≡ n → toReady f p i s ≡ r → s ≡ r
       go zero e g = g
       go (suc f) e g = absurd (omega arith)

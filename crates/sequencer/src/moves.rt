@@ -1,18 +1,13 @@
 // Events move between the heap, the sounding list and the finished list. A list that is full, or whose count is corrupt, stays as it is.
 ghost use mathlib.Core.Path.{_≡_};
 ghost use Prim.Native.Nat.{min};
-ghost use Rattle.sequencer.specs.Moves.{pushedReady, poppedReady, pushedActive, swapRemoved, pushedPast, pushedEvent, pushedRelative, activated, readyToActive, activeToPast, releasedPast, advanced, toReady, allToReady};
+ghost use Rattle.sequencer.specs.Moves.{pushedReady, poppedReady, pushedActive, swapRemoved, pushedPast, pushedEvent, pushedRelative, activated, readyToActive, activeToPast, releasedPast, advanced, allToReady};
 use crate::Sequencer;
 use event::Event;
 use event::ReplayMode;
 use lists::FoundEdit;
 use ready::Ready;
-
-pub(crate) fn capped(n: usize) -> usize
-    ensures { λ r. ⌜ r ≡ min n 256 ⌝ }
-{
-    if n < 256 { n } else { 256 }
-}
+use runs::least;
 
 impl Sequencer {
     // ---- one event
@@ -203,39 +198,25 @@ impl Sequencer {
 
     // ---- everything waits again
 
-    fn past_to_ready(mut self) -> Sequencer
-        ensures { λ r. ⌜ r ≡ toReady (min (self .«past_len») 256) (self .past) 0 self ⌝ }
-    {
-        let n = capped(self.past_len);
-        let mut i = 0;
-        while i < n {
-            let event = self.past[i];
-            self = self.push_ready(event);
-            i = i + 1;
-        }
-        self
-    }
-
-    fn active_to_ready(mut self) -> Sequencer
-        ensures { λ r. ⌜ r ≡ toReady (min (self .«active_len») 256) (self .active) 0 self ⌝ }
-    {
-        let n = capped(self.active_len);
-        let mut i = 0;
-        while i < n {
-            let event = self.active[i];
-            self = self.push_ready(event);
-            i = i + 1;
-        }
-        self
-    }
-
-    pub(crate) fn all_to_ready(self) -> Sequencer
+    // The finished, then the sounding go into the heap.
+    pub(crate) fn all_to_ready(mut self) -> Sequencer
         ensures { λ r. ⌜ r ≡ allToReady self ⌝ }
     {
-        let s = self.past_to_ready();
-        let mut s = s.active_to_ready();
-        s.past_len = 0;
-        s.active_len = 0;
-        s
+        let past = least(self.past_len, 256);
+        let n = past + least(self.active_len, 256);
+        let mut i = 0;
+        while i < n {
+            let mut event = self.past[0];
+            if i < past {
+                event = self.past[i];
+            } else {
+                event = self.active[i - past];
+            }
+            self = self.push_ready(event);
+            i = i + 1;
+        }
+        self.past_len = 0;
+        self.active_len = 0;
+        self
     }
 }

@@ -4,10 +4,10 @@ ghost use Rattle.sequencer.specs.Resets.{clearedEdits, rewoundReady, res
 use crate::Answer;
 use crate::Outcome;
 use crate::Sequencer;
-use crate::moves::capped;
 use event::ReplayMode;
 use lists::EditMap;
 use refusals::rate_refusal;
+use runs::least;
 
 fn cleared_edits(mut edits: EditMap) -> EditMap
     ensures { λ r. ⌜ r ≡ clearedEdits edits ⌝ }
@@ -21,7 +21,7 @@ impl Sequencer {
     fn rewind_ready(mut self) -> Sequencer
         ensures { λ r. ⌜ r ≡ rewoundReady self ⌝ }
     {
-        let n = capped(self.ready_len);
+        let n = least(self.ready_len, 256);
         let mut i = 0;
         while i < n {
             let event = self.ready[i];
@@ -47,7 +47,8 @@ impl Sequencer {
                 s
             }
             ReplayMode::None => {
-                let n = capped(self.past_len) + (capped(self.ready_len) + capped(self.active_len));
+                let n = least(self.past_len, 256)
+                    + (least(self.ready_len, 256) + least(self.active_len, 256));
                 self.let_go = std::num::wrapping_add_u64(self.let_go, n as u64);
                 let edits = self.edit_map;
                 let edits = cleared_edits(edits);

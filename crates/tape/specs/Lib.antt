@@ -1,7 +1,7 @@
 pub mod Fields
 pub mod Tape
-pub mod Putting
-pub mod Text
 pub mod Example
 pub mod Pool
 pub mod Window
+pub mod CasesOfRecords
+pub mod Numbering

@@ -13,6 +13,7 @@ use Rattle.event.specs.declared.ReplayMode.{ReplayMode}
 use Rattle.event.specs.declared.ReplayMode.the-variants.{All, None}
 use Rattle.event.specs.declared.Source.{Source}
 use Rattle.event.specs.declared.Source.the-variants.{Held, Ramp, Clip}
+use Rattle.event.specs.Numbers.{modeNumber, curveNumber, sourceNumber}
 use Rattle.tape.specs.declared.reader.Cursor.{Cursor}
 use Rattle.tape.specs.declared.reader.PushRecord.{PushRecord}
 use Rattle.tape.specs.declared.reader.EditRecord.{EditRecord}
@@ -47,13 +48,27 @@ curveByte bs = getD bs 33 0
 abbrev pub sourceByte : List ℕ → ℕ
 sourceByte bs = getD bs 34 0
 
+-- a byte above the last case's number is unknown
+abbrev pub unknownMode : ℕ → Bool
+unknownMode b = ltb (modeNumber None) b
+
+abbrev pub unknownCurve : ℕ → Bool
+unknownCurve b = ltb (curveNumber Smooth) b
+
+abbrev pub unknownSource : ℕ → Bool
+unknownSource b = ltb (sourceNumber (Clip 0 0)) b
+
+unfoldable pub unknownPush : List ℕ → Bool
+unknownPush bs = cond (unknownCurve (curveByte bs)) true (unknownSource (sourceByte bs))
+
 -- 14: the kind is unknown, the first record is not 00 or a later one is, or a mode, curve or source byte is unknown
 unfoldable pub unknown : (first : Bool) → List ℕ → Bool
-unknown true bs = cond (eqb (kindOf bs) 0) (ltb 1 (modeByte bs)) true
+unfolding unknownPush
+unknown true bs = cond (eqb (kindOf bs) 0) (unknownMode (modeByte bs)) true
 unknown false bs =
     cond (eqb (kindOf bs) 0) true
     (cond (ltb 9 (kindOf bs)) true
-    (cond (pushKind (kindOf bs)) (cond (ltb 1 (curveByte bs)) true (ltb 2 (sourceByte bs))) false))
+    (cond (pushKind (kindOf bs)) (unknownPush bs) false))
 
 -- ---- a body's fields
 abbrev pub f64At : List ℕ → ℕ → Float
@@ -62,20 +77,20 @@ f64At bs at = ofBits binary64 (field bs at 8)
 abbrev pub f32At : List ℕ → ℕ → Float
 f32At bs at = ofBits binary32 (field bs at 4)
 
--- 0 All, 1 None
+-- the case whose number the byte is (event/specs/Numbers)
 abbrev pub modeOf : ℕ → ReplayMode
-modeOf b = cond (eqb b 0) All None
+modeOf b = cond (eqb b (modeNumber All)) All None
 
--- 0 power, 1 smooth
 abbrev pub curveOf : ℕ → Fade
-curveOf b = cond (eqb b 0) Power Smooth
+curveOf b = cond (eqb b (curveNumber Power)) Power Smooth
 
--- 0 held: level, unused; 1 ramp: value, step; 2 clip: offset, length
+-- "two 4-byte words (held: level, unused; ramp: value, step; clip: offset, length)"
 unfoldable pub sourceOf : List ℕ → Source
 sourceOf bs =
-    cond (eqb (sourceByte bs) 0) (Held (f32At bs 35))
-    (cond (eqb (sourceByte bs) 1) (Ramp (f32At bs 35) (f32At bs 39))
-    (Clip (field bs 35 4) (field bs 39 4)))
+    let held = Held (f32At bs 35) in
+    let ramp = Ramp (f32At bs 35) (f32At bs 39) in
+    let clip = Clip (field bs 35 4) (field bs 39 4) in
+    cond (eqb (sourceByte bs) (sourceNumber held)) held (cond (eqb (sourceByte bs) (sourceNumber ramp)) ramp clip)
 
 -- start, end or duration, fade-in, fade-out, curve, source
 unfoldable pub pushOf : List ℕ → PushRecord

@@ -2,7 +2,7 @@
 ghost use mathlib.Core.Path.{_≡_};
 ghost use Prim.Native.Nat.{_+_, _<_, _^_};
 ghost use lib.ListN.{length};
-ghost use Rattle.tape.specs.Tape.{readAt, recordOf, unknown, pushKind, sizeOf, callOf, pushOf, editOf, modeOf, curveOf, sourceOf};
+ghost use Rattle.tape.specs.Tape.{readAt, recordOf, unknown, unknownPush, pushKind, sizeOf, callOf, pushOf, editOf, modeOf, curveOf, sourceOf};
 use crate::fields;
 use event::EventId;
 use event::Fade;
@@ -62,6 +62,16 @@ fn is_push(kind: u8) -> bool
     if 0 < kind { kind < 4 } else { false }
 }
 
+// Whether a push's curve or source byte is unknown.
+fn is_unknown_push(bs: &[u8]) -> bool
+    ensures { λ r. ⌜ r ≡ unknownPush (now (bs .entry)) ⌝ }
+{
+    if 1 < fields::byte(bs, 33) {
+        return true;
+    }
+    2 < fields::byte(bs, 34)
+}
+
 // 14.
 fn is_unknown(first: bool, bs: &[u8]) -> bool
     ensures { λ r. ⌜ r ≡ unknown first (now (bs .entry)) ⌝ }
@@ -80,10 +90,7 @@ fn is_unknown(first: bool, bs: &[u8]) -> bool
         return true;
     }
     if is_push(kind) {
-        if 1 < fields::byte(bs, 33) {
-            return true;
-        }
-        return 2 < fields::byte(bs, 34);
+        return is_unknown_push(bs);
     }
     false
 }

@@ -39,76 +39,17 @@ fn enough(at: usize, have: usize) -> bool {
     if have < at { false } else { 43 <= have - at }
 }
 
-fn list_counts(kind: u8, refusal: u64, counts: Counts) -> bool {
-    let mut text = [0u8; 128];
-    let n = tape::text::counts_line(
-        kind,
-        refusal,
-        counts.waiting as u64,
-        counts.sounding as u64,
-        counts.finished as u64,
-        counts.let_go,
-        &mut text,
-    );
-    if n <= 128 {
-        io::write_all(1, &text[..n])
-    } else {
-        false
-    }
-}
-
-// A line for each channel.
-fn list_samples(samples: &[f32], channels: usize, each: usize, stride: usize) -> bool {
-    let mut text = [0u8; 576];
-    let mut left = channels;
-    let mut from: usize = 0;
-    while left > 0 {
-        if samples.len() <= from {
-            return true;
-        }
-        if samples.len() - from < each {
-            return true;
-        }
-        if samples.len() - from < stride {
-            return true;
-        }
-        let n = tape::text::samples_line(&samples[from..from + each], &mut text);
-        if 576 < n {
-            return false;
-        }
-        if !io::write_all(1, &text[..n]) {
-            return false;
-        }
-        from = from + stride;
-        left = left - 1;
-    }
-    true
-}
-
-// The line of a record that 14 or 15 refuses.
-fn stop(r: Read, counts: Counts) {
-    match r {
-        Read::Refused { kind, number } => {
-            list_counts(kind, number as u64, counts);
-        }
-        Read::End => {}
-        Read::Record {
-            kind: _,
-            call: _,
-            next: _,
-        } => {}
-    }
-}
-
 // Lists an applied record; false where the listing ends there.
 fn list(kind: u8, a: Applied, counts: Counts, samples: &[f32]) -> bool {
-    if !list_counts(kind, a.refusal, counts) {
-        return false;
-    }
-    if a.refusal == 1 {
-        return false;
-    }
-    list_samples(samples, a.channels, a.each, a.stride)
+    listing_out::list(
+        kind,
+        a.refusal,
+        counts,
+        samples,
+        a.channels,
+        a.each,
+        a.stride,
+    )
 }
 
 fn main() {
@@ -129,7 +70,7 @@ fn main() {
         let c = Cursor { at, first };
         let r = c.read(&buf[..have]);
         let Read::Record { kind, call, next } = r else {
-            stop(r, s.counts());
+            listing_out::stop(r, s.counts());
             return;
         };
         let a = apply::apply(s, call, &pool, &mut samples);

@@ -37,13 +37,13 @@ returns-3 : tie.Need-returns-3
 unfolding appliedTo appliedOut
 returns-3 c =
     let d = c .before .before .before in
-    of-arm (d .before .before .before .before) (d .call3 .given .1) (c .silent3 .ensures ∙ (λ i. silentOf (c .before .push-relative .ensures i)), refl)
+    of-arm (d .before .before .before .before) (d .call3 .given .1) (c .silent3 .ensures ∙ (λ i. silentOf (c .before .push2 .ensures i)), refl)
 
 returns-4 : tie.Need-returns-4
 unfolding appliedTo appliedOut
 returns-4 c =
     let d = c .before .before .before in
-    of-arm (d .before .before .before .before) (d .call4 .given .1) (c .silent4 .ensures ∙ (λ i. silentOf (c .before .push-duration .ensures i)), refl)
+    of-arm (d .before .before .before .before) (d .call4 .given .1) (c .silent4 .ensures ∙ (λ i. silentOf (c .before .push3 .ensures i)), refl)
 
 returns-5 : tie.Need-returns-5
 unfolding appliedTo appliedOut

@@ -27,7 +27,9 @@ slice-aggregate-play-script : tie.Need-slice-aggregate-play-script Inv-loop μ-l
 slice-aggregate-play-script c = sym (length-take-le _ _ (c .before .lent .ensures))
 
 add-at : tie.Need-add-at Inv-loop μ-loop
-add-at c = omega (arith, c .before .before .before .before .before .before .before .before .before .before .before .if3 .left, c .before .before .before .before .before .before .before .before .before .before .if4 .left, c .before .before .before .before .before .before .before .before .before .before .before .before .before .before .before .before .before .before .before .before .before .before .before .good)
+add-at c =
+    let d = c .before .before .before .before .before .before .before .before .before .before in
+    omega (arith, d .before .if3 .left, d .if4 .left, d .before .before .before .before .before .before .before .before .before .before .before .before .before .good)
 
 loop-less-2 : tie.Need-loop-less-2 Inv-loop μ-loop
 loop-less-2 c = omega (arith, c .before .before .before .before .before .before .before .before .before .before .before .before .before .before .before .loop-test .taken)

@@ -6,8 +6,8 @@ use Prim.Native.Nat.{ℕ}
 use native.Mathlib.Omega.{arith}
 use Rattle.event.specs.declared.EventId.{EventId}
 use Rattle.ledger.specs.Refusals.{within, withinEnd}
-use Rattle.lists.specs.declared.ActiveMap.{ActiveMap}
 use Rattle.lists.specs.declared.EditMap.{EditMap}
+use Rattle.lists.specs.declared.Found.{Found}
 use Rattle.refusals.specs.Refusals.{editLimits, editRefusal, noRoom}
 use borrow.Author.Needs.{needs}
 use Rattle.refusals.proofs.edit_refusal.Statement.{statement}
@@ -21,17 +21,17 @@ passes : (b : Bool) (k r : ℕ) → k ≡ cond b 8 0 → k ≡ 0 → r ≡ cond 
 passes true k r h z = absurd (omega arith)
 passes false k r h z = refl
 
-module _ (index : ActiveMap) (edits : EditMap) (θ : Float) (i : EventId) (end until fade-out : Float) (k : ℕ) (h : k ≡ editLimits end fade-out) where
-  beyond : (k ≡ 0 → ⊥) → k ≡ editRefusal index edits θ i end until fade-out
+module _ (found : Found) (edits : EditMap) (θ : Float) (i : EventId) (end until fade-out : Float) (k : ℕ) (h : k ≡ editLimits end fade-out) where
+  beyond : (k ≡ 0 → ⊥) → k ≡ editRefusal found edits θ i end until fade-out
   unfolding editLimits editRefusal
   beyond some = fails (not (withinEnd end && within fade-out)) k _ h some
 
   module _ (z : k ≡ 0) where
-    full : noRoom index edits θ i until ≡ true → 9 ≡ editRefusal index edits θ i end until fade-out
+    full : noRoom found edits θ i until ≡ true → 9 ≡ editRefusal found edits θ i end until fade-out
     unfolding editLimits editRefusal
     full e = rw e (passes (not (withinEnd end && within fade-out)) k 9 h z)
 
-    fine : noRoom index edits θ i until ≡ false → 0 ≡ editRefusal index edits θ i end until fade-out
+    fine : noRoom found edits θ i until ≡ false → 0 ≡ editRefusal found edits θ i end until fade-out
     unfolding editLimits editRefusal
     fine e = rw e (passes (not (withinEnd end && within fade-out)) k 0 h z)
 

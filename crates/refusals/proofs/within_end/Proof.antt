@@ -16,7 +16,7 @@ end-test (fin s m e) b h = rw h
 
 returns : tie.Need-returns
 unfolding ofBits div round
-returns c = end-test (c .before .before .args .x) true (sym (c .if1 .taken) ∙ c .before .within .ensures)
+returns c = c .if1 .taken ∙ end-test (c .before .before .args .x) true (sym (c .if1 .taken) ∙ c .before .within .ensures)
 
 returns-2 : tie.Need-returns-2
 unfolding ofBits div round

@@ -6,33 +6,30 @@ use mathlib.Core.List.{List, _++_}
 use denote.Ref.{now}
 use lib.Ieee.{Float}
 use lib.ListN.{length, take, drop, length-drop, take-append-drop}
-use Rattle.runs.specs.Samples.{fadedAll}
-use Rattle.runs.specs.Walk.{walk}
+use Rattle.ledger.specs.BlockSamples.{fadedAll, faded}
 use Rattle.runs.proofs.Walks.{front-cut}
-use Rattle.runs.proofs.Fades.{faded-range}
 use borrow.Author.Needs.{needs}
 use Rattle.runs.proofs.fade.Statement.{statement}
 use Rattle.runs.proofs.fade.Tie as tie
 
 returns : tie.Need-returns
+unfolding faded
 returns c =
     let a = c .before .before .before .before .before .before .before .args in
     let l = now (a .s) in
     let m = c .before .before .before .before .before .least .result in
     let h : m - a .from ≡ min (a .to - a .from) (length (drop (a .from) l)) = simp length-drop (omega (arith, c .before .before .before .before .before .least .ensures)) in
     rw (c .before .before .fade-all .ensures)
-    (ap (λ (r : List Float). take (a .from) l ++ r) (front-cut (fadedAll (a .ease) (a .rising) (a .phase) (a .step)) (a .to - a .from) (m - a .from) (drop (a .from) l) h)
-    ∙ faded-range (a .ease) (a .rising) (a .from) (a .to) (a .phase) (a .step) l)
+    (ap (λ (r : List Float). take (a .from) l ++ r) (front-cut (fadedAll (a .ease) (a .rising) (a .phase) (a .step)) (a .to - a .from) (m - a .from) (drop (a .from) l) h))
 
 returns-2 : tie.Need-returns-2
-unfolding walk
+unfolding faded fadedAll
 returns-2 c =
     let a = c .before .before .before .args in
     let l = now (a .s) in
     let h : 0 ≡ min (a .to - a .from) (length (drop (a .from) l)) = simp length-drop (omega (arith, c .before .least .ensures)) in
     sym (take-append-drop (a .from) l)
     ∙ ap (λ (r : List Float). take (a .from) l ++ r) (front-cut (fadedAll (a .ease) (a .rising) (a .phase) (a .step)) (a .to - a .from) 0 (drop (a .from) l) h)
-    ∙ faded-range (a .ease) (a .rising) (a .from) (a .to) (a .phase) (a .step) l
 
 pub fade-spec : {M : Type 1} → statement M
 fade-spec =

@@ -1,11 +1,13 @@
 -- `runs::fade_each` meets its contract. Assumes nothing.
 use borrow.Author.Needs.{needs}
 use Prim.Native.Nat.{_-_}
+use mathlib.Core.Path.{_∙_}
 use lib.Ieee.{nan}
 use lib.ListN.{length}
 use Rattle.event.specs.Fades.{curve}
 use Rattle.floats.specs.Arithmetic.{_+ˢ_, _×ˢ_}
 use Rattle.runs.specs.Samples.{facing}
+use Rattle.runs.proofs.Fades.{fadedAll-walk}
 use Rattle.runs.proofs.Turns.{Turns, start, turn, done}
 use Rattle.runs.proofs.fade_each.Statement.{statement}
 use Rattle.runs.proofs.fade_each.Tie as tie
@@ -23,7 +25,7 @@ loop-again : tie.Need-loop-again Inv-loop μ-loop
 loop-again c = rw (c .at .ensures, c .before .facing .ensures) (turn _ _ _ _ nan (c .before .before .before .before .loop .inv) (c .before .before .before .loop-test .taken))
 
 returns : tie.Need-returns Inv-loop μ-loop
-returns c = done _ _ _ _ (c .before .loop .inv) (c .loop-test .left)
+returns c = done _ _ _ _ (c .before .loop .inv) (c .loop-test .left) ∙ fadedAll-walk _ _ _ _ _
 
 pub fade-each-spec : {M : Type 1} → statement M
 fade-each-spec =

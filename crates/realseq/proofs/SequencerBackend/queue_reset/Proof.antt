@@ -8,7 +8,8 @@ use Rattle.realseq.specs.declared.SequencerBackend.{SequencerBackend}
 use Rattle.realseq.specs.declared.Outcome.{Outcome}
 use Rattle.realseq.specs.declared.Answer.the-variants.{Queued}
 use Rattle.realseq.specs.declared.queues.Message.the-variants.{Reset}
-use Rattle.realseq.specs.Fronts.{queuedWith, refuses, resets}
+use Rattle.realseq.specs.Fronts.{queuedWith, resets}
+use Rattle.realseq.specs.Answers.{refuses}
 use Rattle.realseq.proofs.SequencerBackend.queue_reset.Statement.{statement}
 use Rattle.realseq.proofs.SequencerBackend.queue_reset.Tie as tie
 

@@ -10,7 +10,8 @@ use Rattle.realseq.specs.declared.SequencerBackend.{SequencerBackend}
 use Rattle.realseq.specs.declared.Answer.the-variants.{Queued}
 use Rattle.realseq.specs.declared.queues.Message.{Message}
 use Rattle.realseq.specs.declared.queues.Message.the-variants.{Edit as Amend, EditRelative}
-use Rattle.realseq.specs.Fronts.{queuedWith, refuses, editRefused, editMessage, sendsEdit}
+use Rattle.realseq.specs.Fronts.{queuedWith, editRefused, editMessage, sendsEdit}
+use Rattle.realseq.specs.Answers.{refuses}
 use Rattle.realseq.proofs.Choices.{refused, done as gives}
 use Rattle.realseq.proofs.SequencerBackend.send_edit.Statement.{statement}
 use Rattle.realseq.proofs.SequencerBackend.send_edit.Tie as tie

@@ -7,30 +7,22 @@ use lib.Ieee.{Float}
 use Rattle.event.specs.declared.Event.{Event}
 use Rattle.event.specs.declared.Fade.{Fade}
 use Rattle.event.specs.declared.Source.{Source}
-use Rattle.event.specs.declared.Unit.{Unit as Playing}
-use Rattle.event.specs.Sources.{atStart}
+use Rattle.event.specs.Events.{newEvent}
 use Rattle.floats.specs.Arithmetic.{_-ᵈ_}
 use Rattle.realseq.specs.declared.SequencerBackend.{SequencerBackend}
 use Rattle.realseq.specs.declared.Outcome.{Outcome}
 use Rattle.realseq.specs.declared.Answer.the-variants.{Number}
 use Rattle.realseq.specs.declared.queues.Message.{Message}
 use Rattle.realseq.specs.declared.queues.Message.the-variants.{Push, PushRelative}
-use Rattle.realseq.specs.Fronts.{queuedWith, numbered, refuses, pushRefused, pushMessage, sendsPush}
+use Rattle.realseq.specs.Fronts.{queuedWith, numbered, pushRefused, pushMessage, sendsPush}
+use Rattle.realseq.specs.Answers.{refuses}
 use Rattle.realseq.proofs.Choices.{refused, done as gives}
 use Rattle.realseq.proofs.SequencerBackend.send_push.Statement.{statement}
 use Rattle.realseq.proofs.SequencerBackend.send_push.Tie as tie
 
 module _ (d : SequencerBackend) (r : Bool) (start end until : Float) (curve : Fade) (fade-in fade-out : Float) (source : Source) (k : ℕ) (h : k ≡ pushRefused d start end (until -ᵈ start) fade-in fade-out source) where
-  abbrev event : Playing → Event
-  event u = record {
-    «start_time» = start;
-    «end_time» = until;
-    «fade_ease» = curve;
-    «fade_in» = fade-in;
-    «fade_out» = fade-out;
-    unit = u;
-    id = record { 0 = d .sequencer .next };
-  }
+  abbrev event : Event
+  event = newEvent start until fade-in fade-out curve source (d .sequencer .next)
 
   abbrev answers : SequencerBackend → Outcome
   answers x = record { backend = x; answer = Number (record { 0 = d .sequencer .next }) }
@@ -39,20 +31,20 @@ module _ (d : SequencerBackend) (r : Bool) (start end until : Float) (curve : Fa
   unfolding sendsPush
   refuses-it s = refused k (pushRefused d start end (until -ᵈ start) fade-in fade-out source) h d _ s
 
-  module _ (z : k ≡ 0) (u : Playing) (hu : u ≡ atStart source) (e g : SequencerBackend) (he : e ≡ numbered d) where
-    queues : (m : Message) → m ≡ pushMessage r (event u) → g ≡ queuedWith m e → answers g ≡ sendsPush d r start end until curve fade-in fade-out source
+  module _ (z : k ≡ 0) (v : Event) (hv : v ≡ event) (e g : SequencerBackend) (he : e ≡ numbered d) where
+    queues : (m : Message) → m ≡ pushMessage r v → g ≡ queuedWith m e → answers g ≡ sendsPush d r start end until curve fade-in fade-out source
     unfolding sendsPush
     queues m is q =
         gives k (pushRefused d start end (until -ᵈ start) fade-in fade-out source) h d _ _ z
         (ap answers
-        (q ∙ ap (λ (x : Message). queuedWith x e) (is ∙ ap (λ (x : Playing). pushMessage r (event x)) hu)
-        ∙ ap (λ (x : SequencerBackend). queuedWith (pushMessage r (event (atStart source))) x) he))
+        (q ∙ ap (λ (x : Message). queuedWith x e) (is ∙ ap (pushMessage r) hv)
+        ∙ ap (λ (x : SequencerBackend). queuedWith (pushMessage r event) x) he))
 
-    queues-relative : r ≡ true → g ≡ queuedWith (PushRelative (event u)) e → answers g ≡ sendsPush d r start end until curve fade-in fade-out source
-    queues-relative b q = queues (PushRelative (event u)) (sym (ap (λ (x : Bool). pushMessage x (event u)) b)) q
+    queues-relative : r ≡ true → g ≡ queuedWith (PushRelative v) e → answers g ≡ sendsPush d r start end until curve fade-in fade-out source
+    queues-relative b q = queues (PushRelative v) (sym (ap (λ (x : Bool). pushMessage x v) b)) q
 
-    queues-absolute : r ≡ false → g ≡ queuedWith (Push (event u)) e → answers g ≡ sendsPush d r start end until curve fade-in fade-out source
-    queues-absolute b q = queues (Push (event u)) (sym (ap (λ (x : Bool). pushMessage x (event u)) b)) q
+    queues-absolute : r ≡ false → g ≡ queuedWith (Push v) e → answers g ≡ sendsPush d r start end until curve fade-in fade-out source
+    queues-absolute b q = queues (Push v) (sym (ap (λ (x : Bool). pushMessage x v) b)) q
 
 returns : tie.Need-returns
 returns c = refuses-it _ _ _ _ _ _ _ _ _ _ (c .before .push-refusal .ensures) (c .if1 .taken)

@@ -8,8 +8,9 @@ use Rattle.sequencer.specs.declared.Sequencer.{Sequencer}
 use Rattle.sequencer.specs.Resets.{reRated}
 use Rattle.realseq.specs.declared.SequencerBackend.{SequencerBackend}
 use Rattle.realseq.specs.Handling.{drained}
-use Rattle.realseq.specs.Fronts.{refuses}
-use Rattle.realseq.specs.Backs.{accepts, withEngine, rates}
+use Rattle.realseq.specs.Answers.{refuses}
+use Rattle.realseq.specs.Backs.{withEngine, rates}
+use Rattle.realseq.specs.Answers.{accepts}
 use Rattle.realseq.proofs.Choices.{refused, done as gives}
 use Rattle.realseq.proofs.SequencerBackend.set_sample_rate.Statement.{statement}
 use Rattle.realseq.proofs.SequencerBackend.set_sample_rate.Tie as tie

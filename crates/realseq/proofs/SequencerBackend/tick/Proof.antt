@@ -9,8 +9,9 @@ use Rattle.sequencer.specs.declared.Sequencer.{Sequencer}
 use Rattle.sequencer.specs.Rendering.{renderedTick, renderedTickOut}
 use Rattle.realseq.specs.declared.SequencerBackend.{SequencerBackend}
 use Rattle.realseq.specs.Handling.{pastSent, drained}
-use Rattle.realseq.specs.Fronts.{refuses}
-use Rattle.realseq.specs.Backs.{accepts, withEngine, tickNo, ticks, tickOuts}
+use Rattle.realseq.specs.Answers.{refuses}
+use Rattle.realseq.specs.Backs.{withEngine, tickNo, ticks, tickOuts}
+use Rattle.realseq.specs.Answers.{accepts}
 use Rattle.realseq.proofs.Choices.{refused, done as gives, unheard, heard}
 use Rattle.realseq.proofs.SequencerBackend.tick.Statement.{statement}
 use Rattle.realseq.proofs.SequencerBackend.tick.Tie as tie

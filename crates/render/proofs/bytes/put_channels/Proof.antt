@@ -1,7 +1,7 @@
 -- `render::bytes::put_channels` meets its contract. Assumes nothing.
 use borrow.Author.Needs.{needs}
 use native.Mathlib.Omega.{arith}
-use Rattle.tape.specs.Putting.{same-long}
+use Rattle.listing.specs.Putting.{same-long}
 use Rattle.render.proofs.Steps.{Channels, start, next-given, next-fits, next-long, turn, finish}
 use Rattle.render.proofs.bytes.put_channels.Statement.{statement}
 use Rattle.render.proofs.bytes.put_channels.Tie as tie

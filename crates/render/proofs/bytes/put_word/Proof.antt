@@ -5,7 +5,7 @@ use mathlib.Core.List.{[], _∷_}
 use Prim.Native.Nat.{ℕ, _+_, _-_, _/_, _%_, _≤_}
 use native.Mathlib.Omega.{arith}
 use lib.ListN.{length}
-use Rattle.tape.specs.Putting.{Putting, begin, further, ended, same-long, left-is}
+use Rattle.listing.specs.Putting.{Putting, begin, further, ended, same-long, left-is}
 use Rattle.render.specs.Bytes.{littleEndian}
 use Rattle.render.proofs.Steps.{little-step}
 use Rattle.render.proofs.bytes.put_word.Statement.{statement}

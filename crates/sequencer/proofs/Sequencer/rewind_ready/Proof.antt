@@ -49,7 +49,7 @@ abbrev μ-loop : tie.MeasureT-loop
 μ-loop self₀ n i₀ self i = n - i
 
 loop-holds : tie.Need-loop-holds Inv-loop μ-loop
-loop-holds c = record { count = c .capped .ensures; same = refl; fuel = c .capped .result; exact = omega arith; gives = refl }
+loop-holds c = record { count = c .least .ensures; same = refl; fuel = c .least .result; exact = omega arith; gives = refl }
 
 loop-again : tie.Need-loop-again Inv-loop μ-loop
 loop-again c = rewinding-on (c .rewind .ensures) (c .before .before .loop-test .taken) (c .before .before .before .loop .inv)

@@ -1,9 +1,7 @@
-use mathlib.Core.Path.{_≡_, refl, sym, ap, _∙_, subst}
-use Prim.Native.Nat.{ℕ, suc, _≤_, _<_, _-_, _+_, _*_, _^_, min}
-use native.Mathlib.Omega.{arith}
-use borrow.Author.Tests.{le-ltb, lt-ltb, le-leb, lt-leb, eq-eqb, ne-eqb}
-use borrow.Author.Needs.{needs}
+use mathlib.Core.Path.{_≡_, sym, _∙_}
+use borrow.Author.Tests.{ne-eqb}
 use Rattle.tape.specs.Tape.{callOf}
+use borrow.Author.Needs.{needs}
 use Rattle.tape.proofs.reader.call_of.Statement.{statement}
 use Rattle.tape.proofs.reader.call_of.Tie as tie
 
@@ -45,7 +43,29 @@ returns-9 c = simp (sym (c .before .byte .ensures) ∙ c .match .keys9)
 
 returns-10 : tie.Need-returns-10
 unfolding callOf
-returns-10 c = simp (sym (c .before .before .byte .ensures), ne-eqb _ _ (c .before .match .rest .0 .0 .0 .0 .0 .0 .0 .0 .1), ne-eqb _ _ (c .before .match .rest .0 .0 .0 .0 .0 .0 .0 .1), ne-eqb _ _ (c .before .match .rest .0 .0 .0 .0 .0 .0 .1), ne-eqb _ _ (c .before .match .rest .0 .0 .0 .0 .0 .1), ne-eqb _ _ (c .before .match .rest .0 .0 .0 .0 .1), ne-eqb _ _ (c .before .match .rest .0 .0 .0 .1), ne-eqb _ _ (c .before .match .rest .0 .0 .1), ne-eqb _ _ (c .before .match .rest .0 .1), ne-eqb _ _ (c .before .match .rest .1), sym (c .f64-at .ensures))
+returns-10 c =
+    let r8 = c .before .match .rest in
+    let r7 = r8 .0 in
+    let r6 = r7 .0 in
+    let r5 = r6 .0 in
+    let r4 = r5 .0 in
+    let r3 = r4 .0 in
+    let r2 = r3 .0 in
+    let r1 = r2 .0 in
+    let r0 = r1 .0 in
+    simp (
+      sym (c .before .before .byte .ensures),
+      ne-eqb _ _ (r0 .1),
+      ne-eqb _ _ (r1 .1),
+      ne-eqb _ _ (r2 .1),
+      ne-eqb _ _ (r3 .1),
+      ne-eqb _ _ (r4 .1),
+      ne-eqb _ _ (r5 .1),
+      ne-eqb _ _ (r6 .1),
+      ne-eqb _ _ (r7 .1),
+      ne-eqb _ _ (r8 .1),
+      sym (c .f64-at .ensures),
+    )
 
 pub call-of-spec : {M : Type 1} → statement M
 call-of-spec =

@@ -1,9 +1,7 @@
-use mathlib.Core.Path.{_≡_, refl, sym, ap, _∙_, subst}
-use Prim.Native.Nat.{ℕ, suc, _≤_, _<_, _-_, _+_, _*_, _^_, min}
-use native.Mathlib.Omega.{arith}
-use borrow.Author.Tests.{le-ltb, lt-ltb, le-leb, lt-leb, eq-eqb, ne-eqb}
-use borrow.Author.Needs.{needs}
+use mathlib.Core.Path.{_≡_, sym, _∙_}
+use borrow.Author.Tests.{le-ltb, lt-ltb, eq-eqb, ne-eqb}
 use Rattle.tape.specs.Tape.{unknown}
+use borrow.Author.Needs.{needs}
 use Rattle.tape.proofs.reader.is_unknown.Statement.{statement}
 use Rattle.tape.proofs.reader.is_unknown.Tie as tie
 
@@ -25,18 +23,20 @@ returns-4 c = simp (c .before .before .if1 .left, sym (c .before .before .before
 
 returns-5 : tie.Need-returns-5
 unfolding unknown
-returns-5 c = simp (c .before .before .before .before .before .before .if1 .left, sym (c .before .before .before .before .before .before .before .byte .ensures), ne-eqb _ _ (c .before .before .before .before .before .if3 .left), le-ltb _ _ (c .before .before .before .before .if4 .left), sym (c .before .before .before .is-push .ensures) ∙ c .before .before .if5 .taken, sym (c .before .byte3 .ensures), lt-ltb _ _ (c .if6 .taken))
+returns-5 c =
+    let k = sym (c .before .before .before .before .before .before .byte .ensures) in
+    let push = sym (c .before .before .is-push .ensures) ∙ c .before .if5 .taken in
+    simp (c .before .before .before .before .before .if1 .left, k, ne-eqb _ _ (c .before .before .before .before .if3 .left), le-ltb _ _ (c .before .before .before .if4 .left), push, sym (c .is-unknown-push .ensures))
 
 returns-6 : tie.Need-returns-6
 unfolding unknown
-returns-6 c = simp (c .before .before .before .before .before .before .before .if1 .left, sym (c .before .before .before .before .before .before .before .before .byte .ensures), ne-eqb _ _ (c .before .before .before .before .before .before .if3 .left), le-ltb _ _ (c .before .before .before .before .before .if4 .left), sym (c .before .before .before .before .is-push .ensures) ∙ c .before .before .before .if5 .taken, sym (c .before .before .byte3 .ensures), le-ltb _ _ (c .before .if6 .left), sym (c .byte4 .ensures))
-
-returns-7 : tie.Need-returns-7
-unfolding unknown
-returns-7 c = simp (c .before .before .before .before .if1 .left, sym (c .before .before .before .before .before .byte .ensures), ne-eqb _ _ (c .before .before .before .if3 .left), le-ltb _ _ (c .before .before .if4 .left), sym (c .before .is-push .ensures) ∙ c .if5 .left)
+returns-6 c =
+    let k = sym (c .before .before .before .before .before .byte .ensures) in
+    let push = sym (c .before .is-push .ensures) ∙ c .if5 .left in
+    simp (c .before .before .before .before .if1 .left, k, ne-eqb _ _ (c .before .before .before .if3 .left), le-ltb _ _ (c .before .before .if4 .left), push)
 
 pub is-unknown-spec : {M : Type 1} → statement M
 is-unknown-spec =
     tie.close
     (tie.spec (λ c κs. search needs) (λ c κs. search needs) returns returns-2 returns-3 returns-4 (λ c κs. search needs)
-    (λ c κs. search needs) returns-5 (λ c κs. search needs) returns-6 returns-7)
+    (λ c κs. search needs) returns-5 returns-6)

@@ -15,7 +15,7 @@ abbrev μ-loop : tie.MeasureT-loop
 μ-loop self₀ s i₀ self i = i
 
 loop-holds : tie.Need-loop-holds Inv-loop μ-loop
-loop-holds c = (omega (arith, c .capped .ensures), down-same _ _ _ _ (c .capped .ensures))
+loop-holds c = (omega (arith, c .least .ensures), down-same _ _ _ _ (c .least .ensures))
 
 loop-again : tie.Need-loop-again Inv-loop μ-loop
 loop-again c =

@@ -1,0 +1,19 @@
+-- `state_trail::run` is safe and ends: the invariant is the output's length. Assumes nothing.
+use borrow.Author.Needs.{needs}
+use mathlib.Core.Path.{_≡_}
+use lib.ListN.{length}
+use Rattle.state_trail.proofs.run.Statement.{statement}
+use Rattle.state_trail.proofs.run.Tie as tie
+
+abbrev Inv-loop : tie.InvT-loop
+Inv-loop bytes pool samples₀ s₀ first₀ at₀ turns₀ samples s first at turns = length samples ≡ 512
+
+abbrev μ-loop : tie.MeasureT-loop
+μ-loop bytes pool samples₀ s₀ first₀ at₀ turns₀ samples s first at turns = turns
+
+pub run-spec : {M : Type 1} → statement M
+run-spec =
+    tie.close
+    (tie.spec Inv-loop μ-loop (λ c κs. search needs) (λ c κs. search needs) (λ c. search needs) (λ c. search needs) (λ c κs. search needs)
+    (λ c. search needs) (λ c κs. search needs) (λ c. search needs) (λ c. search needs) (λ c κs. search needs) (λ c κs. search needs)
+    (λ c κs. search needs) (λ c. search needs) (λ c. search needs) (λ c. search needs) (λ c. search needs))
