@@ -1,9 +1,11 @@
 //! Comparing something with the oracle on random tapes.
 
+use crate::digest;
 use crate::generate::{PROFILES, Profile, generate, named};
 use crate::shrink::shrink;
 use crate::tape;
 use crate::text::to_text;
+use std::process::ExitCode;
 
 /// Which tapes are tried.
 pub struct Options {
@@ -49,31 +51,49 @@ impl Options {
     }
 }
 
-/// Tapes and records that were compared.
-#[derive(Clone, Copy, Debug, Default, PartialEq, Eq)]
+/// Tapes and records that were compared, and how many tapes differ.
+#[derive(Clone, Debug, Default, PartialEq, Eq)]
 pub struct Compared {
     pub tapes: u64,
     pub records: u64,
+    pub differences: u64,
+    /// The first difference with its smallest tape as text.
+    pub report: Option<String>,
+}
+
+impl Compared {
+    /// Print the report and the counts; whether nothing differs.
+    pub fn conclude(self, name: &str) -> ExitCode {
+        if let Some(report) = self.report {
+            eprintln!("{report}");
+        }
+        let (tapes, records, differences) = (self.tapes, self.records, self.differences);
+        println!("{name}: {tapes} tapes, {records} records, {differences} differences");
+        if differences == 0 && tapes > 0 {
+            ExitCode::SUCCESS
+        } else {
+            ExitCode::FAILURE
+        }
+    }
 }
 
 /// Compare on every tape. `differs` says in what a tape shows a difference.
-/// An error is the report of the first difference with its smallest tape as text.
-pub fn compare(
-    options: &Options,
-    mut differs: impl FnMut(&[u8]) -> Option<String>,
-) -> Result<Compared, String> {
+pub fn compare(options: &Options, mut differs: impl FnMut(&[u8]) -> Option<String>) -> Compared {
     let mut compared = Compared::default();
     for profile in &options.profiles {
         for seed in options.seed..options.seed + options.tapes {
             let tape = generate(profile, seed);
-            if let Some(what) = differs(&tape) {
-                return Err(report(profile, seed, &tape, &what, &mut differs));
-            }
             compared.tapes += 1;
             compared.records += count(profile, &tape);
+            if let Some(what) = differs(&tape) {
+                compared.differences += 1;
+                if compared.report.is_none() {
+                    compared.report = Some(report(profile, seed, &tape, &what, &mut differs));
+                }
+            }
         }
     }
-    Ok(compared)
+    compared
 }
 
 /// The records of a tape, the one that stops it included.
@@ -114,8 +134,12 @@ pub fn first_line(expected: &[u8], got: &[u8]) -> Option<String> {
                 None => "(no line)".into(),
             };
             let (line, other) = (show(line), show(other));
+            let parts = match digest::parts(&line, &other) {
+                Some(names) => format!(", in {names}"),
+                None => String::new(),
+            };
             return Some(format!(
-                "line {number}\n  expected: {line}\n  got:      {other}"
+                "line {number}{parts}\n  expected: {line}\n  got:      {other}"
             ));
         }
         number += 1;

@@ -4,6 +4,7 @@ pub mod agree;
 pub mod call;
 pub mod compare;
 pub mod desk;
+pub mod digest;
 pub mod engine;
 pub mod exhaustive;
 pub mod generate;

@@ -1,6 +1,7 @@
 //! The text of a played tape: what `trail` prints, with or without the whole state.
 
-use crate::call::{Call, Curve, Source};
+use crate::call::{Call, Curve, Mode, Source};
+use crate::digest;
 use crate::player::{Answer, Player, Pool};
 use crate::session::{Session, Step};
 use crate::state::{Counts, EditState, EventState, MessageState, State, sample_bits};
@@ -14,7 +15,8 @@ pub enum Detail {
     Listing,
     /// The desk's two queues too.
     Queues,
-    /// The desk's two queues as counts and digests, for a program without decimal floats.
+    /// The whole state as digests of named parts (src/digest.rs), for a program without decimal floats: of an engine in place
+    /// of `trail`'s lines, of a desk behind them.
     Digest,
     /// Answer, numbers, clock, lists, edits, index, whole output and scratch too.
     Full,
@@ -35,6 +37,13 @@ pub fn play<P: Player>(
         let (call, length) = match tape::read(format, rest, session.is_none()) {
             Ok(read) => read,
             Err(stop) => {
+                if states_only(format, detail) {
+                    let answer = Answer::Refused(stop.refusal);
+                    // Before the first record stands a fresh engine of one channel.
+                    let fresh = || P::create(variant, 1, Mode::All, 1).0;
+                    let player = session.map_or_else(fresh, |session| session.player);
+                    return state(out, format, stop.kind, answer, &player);
+                }
                 let counts = session.as_ref().map(|session| session.player.counts());
                 return line(out, stop.kind, stop.refusal, counts.unwrap_or_default());
             }
@@ -45,6 +54,9 @@ pub fn play<P: Player>(
             None => {
                 let (created, answer) = Session::create(variant, &call, pool);
                 if answer.refusal() != 0 {
+                    if states_only(format, detail) {
+                        return state(out, format, call.kind(), answer, &created.player);
+                    }
                     return line(out, call.kind(), answer.refusal(), Counts::default());
                 }
                 session = Some(created);
@@ -55,7 +67,7 @@ pub fn play<P: Player>(
             }
         };
         if let Some(session) = &session {
-            record(out, detail, &call, step, session)?;
+            record(out, format, detail, &call, step, session)?;
         }
     }
     Ok(())
@@ -74,14 +86,34 @@ fn line(out: &mut impl Write, kind: u8, refusal: u8, counts: Counts) -> io::Resu
     )
 }
 
+/// An engine's digests stand alone.
+fn states_only(format: Format, detail: Detail) -> bool {
+    detail == Detail::Digest && format != Format::Desk
+}
+
+fn state<P: Player>(
+    out: &mut impl Write,
+    format: Format,
+    kind: u8,
+    answer: Answer,
+    player: &P,
+) -> io::Result<()> {
+    let desk = format == Format::Desk;
+    digest::line(out, kind, answer, player.channels(), &player.state(), desk)
+}
+
 fn record<P: Player>(
     out: &mut impl Write,
+    format: Format,
     detail: Detail,
     call: &Call,
     step: Step,
     session: &Session<P>,
 ) -> io::Result<()> {
     let player = &session.player;
+    if states_only(format, detail) {
+        return state(out, format, call.kind(), step.answer, player);
+    }
     line(out, call.kind(), step.answer.refusal(), player.counts())?;
     if let Some(count) = step.samples {
         for channel in 0..player.channels() {
@@ -91,55 +123,12 @@ fn record<P: Player>(
     match detail {
         Detail::Listing => Ok(()),
         Detail::Queues => queues(out, &player.state()),
-        Detail::Digest => digests(out, &player.state()),
+        Detail::Digest => state(out, format, call.kind(), step.answer, player),
         Detail::Full => {
             full(out, step.answer, &player.state())?;
             whole(out, "output", &session.output)?;
             whole(out, "scratch", &session.scratch)
         }
-    }
-}
-
-/// A digest with one more number in it.
-pub fn mixed(digest: u64, value: u64) -> u64 {
-    ((digest << 7) ^ (digest >> 57)).wrapping_add(value)
-}
-
-/// How many messages are queued and numbers returned, each with its digest.
-fn digests(out: &mut impl Write, state: &State) -> io::Result<()> {
-    let messages = state.messages.iter().fold(0, |digest, message| {
-        words(message).into_iter().fold(digest, mixed)
-    });
-    let returned = state.returned.iter().copied().fold(0, mixed);
-    let (queued, back) = (state.messages.len(), state.returned.len());
-    writeln!(out, "{queued} {messages:016x} {back} {returned:016x}")
-}
-
-/// A message in numbers: its kind; an event's number, times, fades, curve and source; an edit's number, end and fade.
-fn words(message: &MessageState) -> Vec<u64> {
-    let event = |kind, event: &EventState| {
-        let curve = match event.curve {
-            Curve::Power => 0,
-            Curve::Smooth => 1,
-        };
-        let (source, word, other) = match event.source {
-            Source::Held { level } => (0, level.to_bits(), 0),
-            Source::Ramp { value, step } => (1, value.to_bits(), step.to_bits()),
-            Source::Clip { offset, length } => (2, offset, length),
-        };
-        let times = [event.start, event.end, event.fade_in, event.fade_out];
-        let mut words = vec![kind, event.number];
-        words.extend(times);
-        words.extend([curve, source, u64::from(word), u64::from(other)]);
-        words
-    };
-    let edit = |kind, edit: &EditState| vec![kind, edit.number, edit.end, edit.fade_out];
-    match message {
-        MessageState::Reset => vec![0],
-        MessageState::Push(pushed) => event(1, pushed),
-        MessageState::PushRelative(pushed) => event(2, pushed),
-        MessageState::Edit(edited) => edit(3, edited),
-        MessageState::EditRelative(edited) => edit(4, edited),
     }
 }
 

@@ -1,26 +1,28 @@
-//! Each mutated ledger is caught by the driver within 200 tapes of a fitting profile.
+//! Each mutated ledger is caught by the driver within 200 tapes of a fitting profile, and where states are compared the driver
+//! names the parts that differ.
 
 use std::process::{Command, Output};
 
-fn compare(desk: bool, profile: &str, mutation: Option<&str>) -> Output {
+/// What is compared: listings, an engine's states, or a desk's listings and states.
+const LISTING: &[&str] = &[];
+const STATES: &[&str] = &["--digest"];
+const DESK: &[&str] = &["--desk"];
+
+fn compare(what: &[&str], profile: &str, mutation: Option<&str>) -> Output {
     let mut command = Command::new(env!("CARGO_BIN_EXE_compare"));
-    if desk {
-        command.arg("--desk");
-    }
+    command.args(what);
     command.args(["--tapes", "200", "--profile", profile, "--program"]);
     command.arg(env!("CARGO_BIN_EXE_ledger-trail"));
-    if desk {
-        command.arg("--desk");
-    }
+    command.args(what);
     if let Some(name) = mutation {
         command.args(["--mutation", name]);
     }
     command.output().expect("the driver runs")
 }
 
-/// The driver fails and shows a small tape.
-fn caught(desk: bool, profile: &str, mutation: &str) {
-    let output = compare(desk, profile, Some(mutation));
+/// The driver fails and shows a small tape; its report.
+fn caught(what: &[&str], profile: &str, mutation: &str) -> String {
+    let output = compare(what, profile, Some(mutation));
     let report = String::from_utf8(output.stderr).expect("a report is text");
     assert!(!output.status.success(), "{mutation} is not caught");
     let smallest = report
@@ -33,48 +35,64 @@ fn caught(desk: bool, profile: &str, mutation: &str) {
         .count();
     assert!(records <= 20, "{mutation}: {records} records\n{report}");
     println!("{mutation}:\n{report}");
+    report
+}
+
+/// The driver says in which parts the states on the smallest tape differ.
+fn named(what: &[&str], profile: &str, mutation: &str, parts: &str) {
+    let report = caught(what, profile, mutation);
+    let last = report.lines().rfind(|line| line.starts_with("line "));
+    let names = last.and_then(|line| line.split(", in ").nth(1));
+    assert_eq!(names, Some(parts), "{report}");
 }
 
 #[test]
 fn the_ledger_itself_passes() {
     for profile in ["small", "swaps", "fades", "edits", "modes", "blocks"] {
-        let output = compare(false, profile, None);
-        assert!(output.status.success(), "{output:?}");
+        for what in [LISTING, STATES] {
+            let output = compare(what, profile, None);
+            assert!(output.status.success(), "{output:?}");
+        }
     }
-    assert!(compare(true, "desk-resets", None).status.success());
+    assert!(compare(DESK, "desk-resets", None).status.success());
 }
 
 #[test]
 fn swap_order_ignored() {
-    caught(false, "swaps", "swap-order-ignored");
+    caught(LISTING, "swaps", "swap-order-ignored");
+    named(STATES, "swaps", "swap-order-ignored", "sounding, index");
 }
 
 #[test]
 fn moved_event_skipped() {
-    caught(false, "swaps", "moved-event-skipped");
+    caught(LISTING, "swaps", "moved-event-skipped");
+    named(STATES, "swaps", "moved-event-skipped", "sounding");
 }
 
 #[test]
 fn fade_counted_by_rate() {
-    caught(false, "fades", "fade-by-rate");
+    caught(LISTING, "fades", "fade-by-rate");
 }
 
 #[test]
 fn push_takes_an_edit() {
-    caught(false, "edits", "push-takes-edit");
+    caught(LISTING, "edits", "push-takes-edit");
+    named(STATES, "edits", "push-takes-edit", "sounding, edits");
 }
 
 #[test]
 fn reset_empties_edits() {
-    caught(false, "modes", "reset-empties-edits");
+    caught(LISTING, "modes", "reset-empties-edits");
+    named(STATES, "modes", "reset-empties-edits", "edits");
 }
 
 #[test]
 fn block_as_n_ticks() {
-    caught(false, "blocks", "block-as-ticks");
+    caught(LISTING, "blocks", "block-as-ticks");
+    named(STATES, "blocks", "block-as-ticks", "clock, threshold");
 }
 
 #[test]
 fn queue_handled_flat() {
-    caught(true, "desk-resets", "queue-flat");
+    named(DESK, "desk-resets", "queue-flat", "edits");
 }

@@ -1,6 +1,6 @@
 //! Compares the port's C entry, linked from its static library, with the oracle's bytes.
 
-use oracle::compare::{Options, compare};
+use oracle::compare::{Compared, Options, compare};
 use oracle::render::{render as expected_render, render_ends};
 use oracle::session::{TRAIL_POOL, pool};
 use oracle::tape::Format;
@@ -15,24 +15,24 @@ unsafe extern "C" {
 const ENDS: usize = 24;
 const SHORT: usize = 2_048;
 
+/// The stack, in bytes, that docs/HANDBOOK.md states for the C entry.
+const STACK: usize = 1_024 << 10;
+
 /// What the lent bytes hold before a call, so that those left alone show.
 const MARK: u8 = 0xA5;
 
 fn main() -> ExitCode {
     let arguments: Vec<String> = std::env::args().skip(1).collect();
     match run(&arguments) {
-        Ok(line) => {
-            println!("{line}");
-            ExitCode::SUCCESS
-        }
-        Err(report) => {
-            eprintln!("{report}");
-            ExitCode::FAILURE
+        Ok(compared) => compared.conclude("compare-c"),
+        Err(usage) => {
+            eprintln!("{usage}");
+            ExitCode::from(2)
         }
     }
 }
 
-fn run(arguments: &[String]) -> Result<String, String> {
+fn run(arguments: &[String]) -> Result<Compared, String> {
     let usable = |profile: &oracle::generate::Profile| profile.format == Format::Tape;
     let (options, rest) = Options::read(arguments, usable)?;
     if !rest.is_empty() {
@@ -41,7 +41,7 @@ fn run(arguments: &[String]) -> Result<String, String> {
     let pool = pool(TRAIL_POOL);
     // Room for the longest tape's samples: 64 of 8 channels for each record.
     let mut room = Vec::new();
-    let compared = compare(&options, |tape| {
+    Ok(compare(&options, |tape| {
         room.resize(4 * 64 * 8 * tape.len(), MARK);
         let ends = render_ends(tape, &mut room, &pool);
         room.clear();
@@ -57,15 +57,22 @@ fn run(arguments: &[String]) -> Result<String, String> {
             let mut expected = vec![MARK; length];
             let mut got = expected.clone();
             let expected_count = expected_render(tape, &mut expected, &pool);
-            // Safety: both slices are lent for the call, with their lengths.
-            let count = unsafe { render(tape.as_ptr(), tape.len(), got.as_mut_ptr(), got.len()) };
+            let count = with_stated_stack(|| {
+                // Safety: both slices are lent for the call, with their lengths.
+                unsafe { render(tape.as_ptr(), tape.len(), got.as_mut_ptr(), got.len()) }
+            });
             difference(length, (expected_count, &expected), (count, &got))
         })
-    })?;
-    Ok(format!(
-        "compare-c: {} tapes, {} records, 0 differences",
-        compared.tapes, compared.records
-    ))
+    }))
+}
+
+/// What a call gives on a thread with the stack that the handbook states.
+fn with_stated_stack<T: Send>(call: impl FnOnce() -> T + Send) -> T {
+    std::thread::scope(|scope| {
+        let thread = std::thread::Builder::new().stack_size(STACK);
+        let spawned = thread.spawn_scoped(scope, call).expect("a thread");
+        spawned.join().expect("it ends")
+    })
 }
 
 fn difference(length: usize, expected: (usize, &[u8]), got: (usize, &[u8])) -> Option<String> {

@@ -1,6 +1,6 @@
 //! Compares a program that reads a tape on standard input with the oracle's listing.
 
-use oracle::compare::{Options, compare, first_line};
+use oracle::compare::{Compared, Options, compare, first_line};
 use oracle::desk::Desk;
 use oracle::engine::Engine;
 use oracle::generate::Profile;
@@ -11,27 +11,28 @@ use oracle::tape::{Format, as_the_port_lends};
 use std::io::{Read, Write};
 use std::process::{Command, ExitCode, Stdio};
 
-const USAGE: &str = "usage: compare [--desk] [--tapes N] [--seed S] [--profile P].. \
+/// As many bytes of a tape as the port's program over states reads.
+const STATE_TAPE: usize = 65_536;
+
+const USAGE: &str = "usage: compare [--desk | --digest] [--tapes N] [--seed S] [--profile P].. \
                      --program PATH [ARGUMENT..]";
 
 fn main() -> ExitCode {
     let arguments: Vec<String> = std::env::args().skip(1).collect();
     match run(&arguments) {
-        Ok(line) => {
-            println!("{line}");
-            ExitCode::SUCCESS
-        }
-        Err(report) => {
-            eprintln!("{report}");
-            ExitCode::FAILURE
+        Ok(compared) => compared.conclude("compare"),
+        Err(usage) => {
+            eprintln!("{usage}");
+            ExitCode::from(2)
         }
     }
 }
 
-fn run(arguments: &[String]) -> Result<String, String> {
-    let (format, arguments) = match arguments {
-        [first, rest @ ..] if first == "--desk" => (Format::Desk, rest),
-        _ => (Format::Tape, arguments),
+fn run(arguments: &[String]) -> Result<Compared, String> {
+    let (format, detail, arguments) = match arguments {
+        [first, rest @ ..] if first == "--desk" => (Format::Desk, Detail::Digest, rest),
+        [first, rest @ ..] if first == "--digest" => (Format::Tape, Detail::Digest, rest),
+        _ => (Format::Tape, Detail::Listing, arguments),
     };
     let usable = |profile: &Profile| profile.format == format;
     let (options, rest) = Options::read(arguments, usable)?;
@@ -42,28 +43,25 @@ fn run(arguments: &[String]) -> Result<String, String> {
         return Err(USAGE.into());
     }
     let pool = pool(TRAIL_POOL);
-    let compared = compare(&options, |tape| {
-        let tape = match format {
-            Format::Desk => &as_the_port_lends(format, tape)[..],
+    Ok(compare(&options, |tape| {
+        let tape = match (format, detail) {
+            (Format::Desk, _) => &as_the_port_lends(format, tape)[..],
+            (_, Detail::Digest) => &tape[..tape.len().min(STATE_TAPE)],
             _ => tape,
         };
-        let expected = listing(format, tape, &pool);
+        let expected = listing(format, detail, tape, &pool);
         match output(program, arguments, tape) {
             Ok(got) => first_line(&expected, &got),
             Err(what) => Some(what),
         }
-    })?;
-    Ok(format!(
-        "compare: {} tapes, {} records, 0 differences",
-        compared.tapes, compared.records
-    ))
+    }))
 }
 
-fn listing(format: Format, tape: &[u8], pool: &Pool) -> Vec<u8> {
+fn listing(format: Format, detail: Detail, tape: &[u8], pool: &Pool) -> Vec<u8> {
     let mut text = Vec::new();
     let played = match format {
-        Format::Desk => play::<Desk>(format, Detail::Digest, (), tape, pool, &mut text),
-        _ => play::<Engine>(format, Detail::Listing, (), tape, pool, &mut text),
+        Format::Desk => play::<Desk>(format, detail, (), tape, pool, &mut text),
+        _ => play::<Engine>(format, detail, (), tape, pool, &mut text),
     };
     played.expect("memory takes all");
     text

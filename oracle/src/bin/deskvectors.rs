@@ -46,7 +46,7 @@ fn script() -> Vec<u8> {
         for seed in 1..4 {
             let random = generate(named(profile).expect("a profile"), seed);
             let random = as_the_port_lends(Format::Desk, &random);
-            if script.len() + random.len() < 60_000 {
+            if script.len() + random.len() < 16_000 {
                 script.extend_from_slice(&random[CREATION..]);
             }
         }

@@ -10,12 +10,16 @@ use std::process::ExitCode;
 fn main() -> ExitCode {
     let arguments: Vec<String> = std::env::args().skip(1).collect();
     let mut rest = &arguments[..];
-    let (mut desk, mut mutation) = (false, None);
+    let (mut desk, mut detail, mut mutation) = (false, Detail::Listing, None);
     loop {
         match rest {
             [] => break,
             [option, more @ ..] if option == "--desk" => {
-                desk = true;
+                (desk, detail) = (true, Detail::Digest);
+                rest = more;
+            }
+            [option, more @ ..] if option == "--digest" => {
+                detail = Detail::Digest;
                 rest = more;
             }
             [option, name, more @ ..] if option == "--mutation" => {
@@ -28,7 +32,7 @@ fn main() -> ExitCode {
             _ => return usage(),
         }
     }
-    match run(desk, mutation) {
+    match run(desk, detail, mutation) {
         Ok(()) => ExitCode::SUCCESS,
         Err(error) => {
             eprintln!("ledger-trail: {error}");
@@ -38,37 +42,23 @@ fn main() -> ExitCode {
 }
 
 fn usage() -> ExitCode {
-    eprintln!("usage: ledger-trail [--desk] [--mutation NAME] < TAPE");
+    eprintln!("usage: ledger-trail [--desk | --digest] [--mutation NAME] < TAPE");
     for mutation in Mutation::ALL {
         eprintln!("  {}", mutation.name());
     }
     ExitCode::from(2)
 }
 
-fn run(desk: bool, mutation: Option<Mutation>) -> io::Result<()> {
+fn run(desk: bool, detail: Detail, mutation: Option<Mutation>) -> io::Result<()> {
     let mut tape = Vec::new();
     // A failed read counts as the end of the tape.
     let _ = io::stdin().lock().read_to_end(&mut tape);
     let pool = pool(TRAIL_POOL);
     let mut out = BufWriter::new(io::stdout().lock());
     if desk {
-        play::<DeskLedger>(
-            Format::Desk,
-            Detail::Digest,
-            mutation,
-            &tape,
-            &pool,
-            &mut out,
-        )?;
+        play::<DeskLedger>(Format::Desk, detail, mutation, &tape, &pool, &mut out)?;
     } else {
-        play::<Ledger>(
-            Format::Tape,
-            Detail::Listing,
-            mutation,
-            &tape,
-            &pool,
-            &mut out,
-        )?;
+        play::<Ledger>(Format::Tape, detail, mutation, &tape, &pool, &mut out)?;
     }
     out.flush()
 }

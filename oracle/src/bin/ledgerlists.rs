@@ -399,6 +399,26 @@ fn list(items: impl IntoIterator<Item = String>) -> String {
     text + "[]"
 }
 
+/// A field of a record whose list is broken into lines of at most 200 characters.
+fn broken(field: &str) -> String {
+    let mut text = String::new();
+    let mut width = 0;
+    for item in field.split(" ∷ ") {
+        let long = item.chars().count() + 3;
+        if text.is_empty() {
+            width = long - 3;
+        } else if width + long > 200 {
+            text += "\n          ∷ ";
+            width = 9 + long;
+        } else {
+            text += " ∷ ";
+            width += long;
+        }
+        text += item;
+    }
+    text
+}
+
 fn finite(negative: bool, mut digits: u64, mut power: i64) -> String {
     if digits == 0 {
         return format!("(fin {negative} 0 (pos 0))");
@@ -627,12 +647,12 @@ fn trial(random: &mut Random) -> String {
       first = {first};
       created = {};
       calls = {}[];
-      state = {};
+{};
       edits = {};
     }}",
         answer_text(created),
         calls.concat(),
-        state_text(&state),
+        broken(&format!("      state = {}", state_text(&state))),
         edits_text(&state)
     )
 }

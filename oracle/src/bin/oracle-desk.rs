@@ -1,5 +1,5 @@
 //! Prints the listing of the desk script on standard input, with the desk's two queues.
-//! `--full` adds the whole state; `--digest` has the queues as counts and digests, as the port's desk_trail prints them.
+//! `--full` adds the whole state; `--digest` has it as digests, as the port's desk_trail prints it.
 
 use oracle::desk::Desk;
 use oracle::listing::{Detail, play};

@@ -1,5 +1,6 @@
 //! Prints what `trail` must print for the tape on standard input.
-//! `--full` adds the whole state, `--script` takes kinds 11 to 14 too.
+//! `--full` adds the whole state, `--digest` has it as digests in place of the listing, as the port's state_trail prints it;
+//! `--script` takes kinds 11 to 14 too.
 
 use oracle::engine::Engine;
 use oracle::listing::{Detail, play};
@@ -13,9 +14,10 @@ fn main() -> ExitCode {
     for argument in std::env::args().skip(1) {
         match argument.as_str() {
             "--full" => detail = Detail::Full,
+            "--digest" => detail = Detail::Digest,
             "--script" => format = Format::Script,
             _ => {
-                eprintln!("usage: oracle-trail [--full] [--script] < TAPE");
+                eprintln!("usage: oracle-trail [--full | --digest] [--script] < TAPE");
                 return ExitCode::from(2);
             }
         }

@@ -34,45 +34,62 @@ fn main() -> ExitCode {
     };
     // A panic is reported as a difference, with its tape.
     std::panic::set_hook(Box::new(|_| {}));
-    match run(records) {
-        Ok(tally) => {
-            let Tally { tapes, records, .. } = tally;
-            println!("selfcheck: {tapes} tapes, {records} records, 0 differences");
-            ExitCode::SUCCESS
-        }
-        Err(report) => {
-            println!("{report}\nselfcheck: failed");
-            ExitCode::FAILURE
-        }
-    }
-}
-
-fn run(records: u64) -> Result<Tally, String> {
-    let pool = pool(TRAIL_POOL);
-    println!("proof sheet: {} cases", sheet::check()?);
-    let mut all = short_tapes(&pool)?;
-    for profile in PROFILES {
-        let tally = random_tapes(profile, records / PROFILES.len() as u64, &pool)?;
-        print(profile.name, &tally);
-        all.add(tally);
-    }
+    let (all, differences) = run(records);
     print("in all", &all);
-    Ok(all)
+    println!(
+        "selfcheck: {} tapes, {} records, {differences} differences",
+        all.tapes, all.records
+    );
+    if differences == 0 {
+        ExitCode::SUCCESS
+    } else {
+        ExitCode::FAILURE
+    }
 }
 
-fn short_tapes(pool: &Pool) -> Result<Tally, String> {
+/// What was compared, and how many sets (the sheet, the short tapes, each profile) show a difference; a set ends at its first.
+fn run(records: u64) -> (Tally, u64) {
+    let pool = pool(TRAIL_POOL);
+    let (mut all, mut differences) = (Tally::default(), 0);
+    match sheet::check() {
+        Ok(cases) => println!("proof sheet: {cases} cases"),
+        Err(report) => {
+            println!("{report}");
+            differences += 1;
+        }
+    }
+    let each = records / PROFILES.len() as u64;
+    let random = |profile: &'static Profile| (profile.name, random_tapes(profile, each, &pool));
+    let sets = short_tapes(&pool)
+        .into_iter()
+        .chain(PROFILES.iter().map(random));
+    for (name, compared) in sets {
+        match compared {
+            Ok(tally) => {
+                print(name, &tally);
+                all.add(tally);
+            }
+            Err(report) => {
+                println!("{report}");
+                differences += 1;
+            }
+        }
+    }
+    (all, differences)
+}
+
+fn short_tapes(pool: &Pool) -> Vec<(&'static str, Result<Tally, String>)> {
     let (length, desk_length) = LENGTHS;
-    let mut all = Tally::default();
-    for (name, format, letters, length) in [
+    [
         ("short", Format::Tape, exhaustive::ENGINE, length),
         ("desk-short", Format::Desk, exhaustive::DESK, desk_length),
-    ] {
-        let tally = exhaust(letters, length, |tape| compare(format, tape, pool))
-            .map_err(|(tape, difference)| report(name, format, &tape, &difference))?;
-        print(name, &tally);
-        all.add(tally);
-    }
-    Ok(all)
+    ]
+    .map(|(name, format, letters, length)| {
+        let compared = exhaust(letters, length, |tape| compare(format, tape, pool))
+            .map_err(|(tape, difference)| report(name, format, &tape, &difference));
+        (name, compared)
+    })
+    .into()
 }
 
 fn random_tapes(profile: &Profile, records: u64, pool: &Pool) -> Result<Tally, String> {

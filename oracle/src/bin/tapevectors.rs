@@ -6,7 +6,8 @@
 
 use oracle::engine::Engine;
 use oracle::generate::{generate, named};
-use oracle::listing::{Detail, mixed, play};
+use oracle::digest::mixed;
+use oracle::listing::{Detail, play};
 use oracle::player::Pool;
 use oracle::render::render;
 use oracle::session::{TRAIL_POOL, pool};

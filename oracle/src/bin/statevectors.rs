@@ -1,0 +1,47 @@
+//! The files crates/state_trail/stdin and crates/state_trail/stdout: a tape of the beginnings of random ones, of every valid
+//! profile, and the oracle's states behind each of its records. To make them, in the repository's root, once the oracle is
+//! built:
+//!     oracle/target/release/statevectors stdin > crates/state_trail/stdin
+//!     oracle/target/release/statevectors stdout > crates/state_trail/stdout
+
+use oracle::engine::Engine;
+use oracle::generate::{PROFILES, generate};
+use oracle::listing::{Detail, play};
+use oracle::session::{TRAIL_POOL, pool};
+use oracle::tape::{Format, bytes, records};
+use oracle::text::from_text;
+use std::io::{self, Write};
+
+/// Records of each profile.
+const EACH: usize = 40;
+
+fn main() -> io::Result<()> {
+    let tape = tape();
+    let mut out = io::stdout().lock();
+    match std::env::args().nth(1).as_deref() {
+        Some("stdin") => out.write_all(&tape),
+        Some("stdout") => play::<Engine>(
+            Format::Tape,
+            Detail::Digest,
+            (),
+            &tape,
+            &pool(TRAIL_POOL),
+            &mut out,
+        ),
+        _ => panic!("usage: statevectors stdin|stdout"),
+    }
+}
+
+fn tape() -> Vec<u8> {
+    let mut tape = from_text("create 2 all 1\n").expect("a record");
+    let valid = PROFILES
+        .iter()
+        .filter(|profile| profile.format == Format::Tape && !profile.damaged);
+    for profile in valid {
+        let random = generate(profile, 1);
+        let (calls, _) = records(Format::Tape, &random);
+        let some: Vec<_> = calls.into_iter().skip(1).take(EACH).collect();
+        tape.extend(bytes(&some));
+    }
+    tape
+}
