@@ -190,6 +190,23 @@ fn heap(n: u64) {
     );
 }
 
+/// The running peak over random samples, fed one at a time or in runs of 64, and read after each feed.
+fn peak(window: usize, runs: bool, samples: &[f32]) {
+    let (ours, theirs) = (
+        port::peak(2, window, runs, samples),
+        rust::peak(2, window, runs, samples),
+    );
+    assert_eq!(ours.1, theirs.1, "peak: the answers differ");
+    let times = best(
+        1_000_000,
+        [&mut |k| port::peak(k, window, runs, samples).0, &mut |k| {
+            rust::peak(k, window, runs, samples).0
+        }],
+    );
+    let feeds = if runs { "runs of 64" } else { "single samples" };
+    show(&format!("window {window}, {feeds}"), times, samples.len());
+}
+
 /// Blocks or ticks with n events sounding. Both sides make their engine anew for each turn, untimed.
 fn engine(block: bool, joined: bool, n: u64, faded: bool, channels: usize, pool: &Arc<[f32]>) {
     let call = match (block, joined) {
@@ -252,6 +269,15 @@ fn main() {
     head("heap of 72-byte events, ns a call");
     for n in [16, 256] {
         heap(n);
+    }
+    head("running peak, ns a sample");
+    let noise: Vec<f32> = std::iter::successors(Some(2463534242), |&s| Some(rust::random(s)))
+        .map(|s| s as i32 as f32)
+        .take(16384)
+        .collect();
+    for window in [64, 4096] {
+        peak(window, false, &noise);
+        peak(window, true, &noise);
     }
     for (block, joined, what) in [
         (true, false, "blocks of 64, engine alone, ns a block"),

@@ -17,6 +17,17 @@ mod raw {
         pub fn port_add(mix: *mut f32, n: usize, row: *const f32, k: usize);
         pub fn port_overlay(out: *mut f32, n: usize, mix: *const f32, k: usize);
         pub fn port_heap(rounds: u64, n: u64, pops: bool, digest: *mut u64, one: usize) -> u64;
+        pub fn port_peak(
+            rounds: u64,
+            window: usize,
+            runs: bool,
+            samples: *const f32,
+            n: usize,
+            row: *mut u32,
+            m: usize,
+            digest: *mut u64,
+            one: usize,
+        ) -> u64;
         pub fn port_starts(
             n: u64,
             rounds: u64,
@@ -79,6 +90,27 @@ pub fn overlay(out: &mut [f32], mix: &[f32]) {
 pub fn heap(rounds: u64, n: u64, pops: bool) -> (u64, u64) {
     let mut digest = 0;
     let spent = unsafe { raw::port_heap(rounds, n, pops, &mut digest, 1) };
+    (spent, digest)
+}
+
+/// The time, and a digest of the answers.
+pub fn peak(rounds: u64, window: usize, runs: bool, samples: &[f32]) -> (u64, u64) {
+    let mut row = [7; 4096];
+    let mut digest = 0;
+    let (s, r) = (samples.as_ptr(), row.as_mut_ptr());
+    let spent = unsafe {
+        raw::port_peak(
+            rounds,
+            window,
+            runs,
+            s,
+            samples.len(),
+            r,
+            row.len(),
+            &mut digest,
+            1,
+        )
+    };
     (spent, digest)
 }
 

@@ -1,4 +1,4 @@
-//! The Rust side: the original's loops, the standard library's heap and the original's engine.
+//! The Rust side: the original's loops, the standard library's heap, a monotonic deque and the original's engine.
 
 use crate::original::audiounit::AudioUnit;
 use crate::original::buffer::{BufferMut, BufferRef, BufferVec};
@@ -9,7 +9,7 @@ use crate::original::{F32x, SIMD_M, SIMD_S};
 use crate::port::bench_now;
 use crate::units::unit;
 use std::cmp::Ordering;
-use std::collections::BinaryHeap;
+use std::collections::{BinaryHeap, VecDeque};
 use std::hint::black_box;
 use std::sync::Arc;
 
@@ -109,7 +109,7 @@ impl PartialEq for Event {
 
 impl Eq for Event {}
 
-fn random(seed: u32) -> u32 {
+pub fn random(seed: u32) -> u32 {
     let x = seed ^ (seed << 13);
     let x = x ^ (x >> 17);
     x ^ (x << 5)
@@ -144,6 +144,65 @@ pub fn heap(rounds: u64, n: u64, pops: bool) -> (u64, u64) {
             d = d
                 .rotate_left(7)
                 .wrapping_add(black_box(&heap).peek().unwrap().id);
+        }
+    }
+    (bench_now() - start, d)
+}
+
+// ---- the running peak
+
+/// A monotonic deque: magnitudes that a later one does not reach, each with its place in the history.
+struct Peak {
+    window: u64,
+    fed: u64,
+    kept: VecDeque<(u64, u32)>,
+}
+
+impl Peak {
+    fn feed(&mut self, sample: f32) {
+        let bits = sample.to_bits() & 0x7fff_ffff;
+        let m = if bits > 0x7f80_0000 {
+            0x7fc0_0000
+        } else {
+            bits
+        };
+        while self.kept.back().is_some_and(|&(_, last)| last <= m) {
+            self.kept.pop_back();
+        }
+        self.kept.push_back((self.fed, m));
+        self.fed += 1;
+        if self.kept[0].0 + self.window < self.fed {
+            self.kept.pop_front();
+        }
+    }
+
+    fn peak(&self) -> u32 {
+        self.kept.front().map_or(0, |&(_, m)| m)
+    }
+}
+
+pub fn peak(rounds: u64, window: usize, runs: bool, samples: &[f32]) -> (u64, u64) {
+    let (window, kept) = (window as u64, VecDeque::with_capacity(window + 1));
+    let mut peak = Peak {
+        window,
+        fed: 0,
+        kept,
+    };
+    let mut d = 0u64;
+    let start = bench_now();
+    for _ in 0..black_box(rounds) {
+        if runs {
+            for run in samples.chunks_exact(64) {
+                for &sample in run {
+                    peak.feed(sample);
+                }
+                d = d.rotate_left(7).wrapping_add(peak.peak() as u64);
+            }
+        } else {
+            for &sample in samples {
+                peak.feed(sample);
+                d = d.rotate_left(7).wrapping_add(peak.peak() as u64);
+            }
         }
     }
     (bench_now() - start, d)

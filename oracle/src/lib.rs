@@ -12,6 +12,7 @@ pub mod ledger;
 pub mod listing;
 #[rustfmt::skip] // laid out as the source is
 pub mod original;
+pub mod peak;
 pub mod player;
 mod refusal;
 pub mod render;

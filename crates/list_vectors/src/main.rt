@@ -1,4 +1,6 @@
-// Random pushes and pops, places and edits through `ready` and `lists`. The file `stdout` was made by the Rust's BinaryHeap and HashMap: see oracle/src/bin/listvectors.rs.
+// Random pushes and pops, places and edits through `ready` and `lists`, and feeds through `peak`. The file `stdout` was made by the Rust's BinaryHeap and HashMap, and by a plain maximum: see oracle/src/bin/listvectors.rs.
+mod peaks;
+
 use event::Edit;
 use event::Event;
 use event::EventId;
@@ -330,4 +332,12 @@ fn main() {
     print(b"heap  ", heap_digest(40000));
     print(b"index ", index_digest(20000));
     print(b"edits ", edit_digest(20000));
+    print(b"peak 0    ", peaks::peak_digest(0));
+    print(b"peak 1    ", peaks::peak_digest(1));
+    print(b"peak 2    ", peaks::peak_digest(2));
+    print(b"peak 64   ", peaks::peak_digest(64));
+    print(b"peak 1000 ", peaks::peak_digest(1000));
+    print(b"peak 4095 ", peaks::peak_digest(4095));
+    print(b"peak 4096 ", peaks::peak_digest(4096));
+    print(b"peak 4097 ", peaks::peak_digest(4097));
 }

@@ -1,7 +1,8 @@
-// The file crates/list_vectors/stdout: the same random pushes, pops, places and edits as crates/list_vectors/src/main.rt,
-// through the standard library's BinaryHeap and HashMap. To make it, in the repository's root, once the oracle is built:
+// The file crates/list_vectors/stdout: the same random pushes, pops, places, edits and feeds as crates/list_vectors/src has,
+// through the standard library's BinaryHeap and HashMap, and through oracle::peak. To make it, in the repository's root, once the oracle is built:
 //     oracle/target/release/listvectors > crates/list_vectors/stdout
 // A BinaryHeap does not say which of two equal elements it gives first, so `Ord` ends with the number (document 01, difference 1).
+use oracle::peak::Peak;
 use std::cmp::Ordering;
 use std::collections::{BinaryHeap, HashMap};
 
@@ -168,8 +169,43 @@ fn edit_digest() -> u64 {
     digest
 }
 
+// Sample i of a history, as in crates/list_vectors/src/peaks.rt.
+fn sample(i: u64, window: u64) -> f32 {
+    let r = random(random((i as u32).wrapping_mul(2654435761)));
+    let step = i / (window / 4 + 1) % 24;
+    let magnitude = if step == 1 && r % 8 < 2 { 0x7f80_0000 } else { (r / 2) >> step };
+    f32::from_bits((r % 2) << 31 | magnitude)
+}
+
+fn peak_digest(window: usize) -> u64 {
+    let (mut peak, refusal) = Peak::new(window);
+    let mut seed: u32 = 521288629;
+    let mut digest = mixed(refusal, peak.peak() as u64);
+    let mut changes = 0;
+    for _ in 0..20000 {
+        seed = random(seed);
+        let r = seed as u64 / 4;
+        let n = match (seed % 4 < 3, r % 61) {
+            (true, _) => 1,
+            (_, 0) => 5000,
+            _ => r / 64 % 32,
+        };
+        let from = peak.count() as u64;
+        let run: Vec<f32> = (from..from + n).map(|i| sample(i, window as u64)).collect();
+        let before = peak.peak();
+        peak.feed(&run);
+        changes += (peak.peak() != before) as u64;
+        digest = mixed(digest, peak.peak() as u64);
+    }
+    eprintln!("peak {window}: {changes} answers differ from the one before, {} samples", peak.count());
+    mixed(digest, peak.count() as u64)
+}
+
 fn main() {
     println!("heap  {:016X}", heap_digest());
     println!("index {:016X}", index_digest());
     println!("edits {:016X}", edit_digest());
+    for window in [0, 1, 2, 64, 1000, 4095, 4096, 4097] {
+        println!("peak {window:<4} {:016X}", peak_digest(window));
+    }
 }

@@ -1,0 +1,6 @@
+pub mod Peaks
+pub mod Steps
+pub mod Claim
+pub mod Turns
+pub mod Theorem
+pub mod Magnitudes
