@@ -19,6 +19,7 @@ pub mod render;
 pub mod session;
 pub mod sheet;
 pub mod shrink;
+pub mod smooth_error;
 pub mod state;
 pub mod tape;
 pub mod text;

@@ -1,3 +1,4 @@
 pub mod Curves
 pub mod Constants
 pub mod Cases
+pub mod SmoothError
