@@ -10,6 +10,7 @@ pub mod exhaustive;
 pub mod generate;
 pub mod ledger;
 pub mod listing;
+pub mod lodge;
 #[rustfmt::skip] // laid out as the source is
 pub mod original;
 pub mod peak;

@@ -1,4 +1,5 @@
-// Random pushes and pops, places and edits through `ready` and `lists`, and feeds through `peak`. The file `stdout` was made by the Rust's BinaryHeap and HashMap, and by a plain maximum: see oracle/src/bin/listvectors.rs.
+// Random pushes and pops, places and edits through `ready` and `lists`, feeds through `peak`, and windows through `lodge`. The file `stdout` was made by the Rust's BinaryHeap and HashMap, and by plain references: see oracle/src/bin/listvectors.rs.
+mod hours;
 mod peaks;
 
 use event::Edit;
@@ -340,4 +341,5 @@ fn main() {
     print(b"peak 4095 ", peaks::peak_digest(4095));
     print(b"peak 4096 ", peaks::peak_digest(4096));
     print(b"peak 4097 ", peaks::peak_digest(4097));
+    print(b"hours ", hours::hours_digest(4000));
 }

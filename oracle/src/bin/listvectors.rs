@@ -1,7 +1,8 @@
-// The file crates/list_vectors/stdout: the same random pushes, pops, places, edits and feeds as crates/list_vectors/src has,
-// through the standard library's BinaryHeap and HashMap, and through oracle::peak. To make it, in the repository's root, once the oracle is built:
+// The file crates/list_vectors/stdout: the same random pushes, pops, places, edits, feeds and windows as crates/list_vectors/src has,
+// through the standard library's BinaryHeap and HashMap, and through oracle::peak and oracle::lodge. To make it, in the repository's root, once the oracle is built:
 //     oracle/target/release/listvectors > crates/list_vectors/stdout
 // A BinaryHeap does not say which of two equal elements it gives first, so `Ord` ends with the number (document 01, difference 1).
+use oracle::lodge::{self, Window};
 use oracle::peak::Peak;
 use std::cmp::Ordering;
 use std::collections::{BinaryHeap, HashMap};
@@ -201,6 +202,80 @@ fn peak_digest(window: usize) -> u64 {
     mixed(digest, peak.count() as u64)
 }
 
+// The windows in use, as in crates/list_vectors/src/hours.rt.
+fn hours_of(mut r: u32, span: u64) -> ([Window; 16], usize) {
+    let mut last = 0;
+    let mut windows = [0; 16].map(|_| {
+        r = random(r);
+        let opens = last + if r % 2 == 0 { 0 } else { (r / 2) as u64 % span };
+        last = opens + 1 + (r / 4096) as u64 % span;
+        Window { opens, closes: last }
+    });
+    let mut count = windows.iter().filter(|w| w.closes <= 10080).count();
+    let seed = random(r);
+    let r = seed / 8;
+    let (i, value) = (r as usize % 16, (r / 16) as u64 % 10082);
+    match seed % 8 {
+        0 => count = r as usize % 18,
+        1 => windows[i].opens = value,
+        2 => windows[i].closes = value,
+        6 | 7 if count > 0 => windows[count - 1].closes = 10080,
+        _ => (),
+    }
+    (windows, count)
+}
+
+fn minute_of(seed: u32) -> u64 {
+    let r = (seed / 8) as u64;
+    match seed % 8 {
+        0 => 0xffff_ffff + r % 2,
+        1 => 0xffff_ffff - r % 10080,
+        2 => r % 400000 * 10080 + r / 400000 % 2 * 10079,
+        _ => r * 8,
+    }
+}
+
+fn length_of(windows: &[Window], seed: u32, span: u64) -> u64 {
+    let r = seed / 8;
+    let window = windows[r as usize % 16];
+    match seed % 8 {
+        0 => window.closes.wrapping_sub(window.opens),
+        1 => window.closes.wrapping_sub(window.opens).wrapping_add(1),
+        2 => 10079 + (r % 3) as u64,
+        _ => r as u64 % span,
+    }
+}
+
+fn hours_digest() -> u64 {
+    let mut digest = 0;
+    let mut seed: u32 = 362436069;
+    let (mut at_once, mut this_week, mut later, mut above) = (0, 0, 0, 0);
+    let mut refusals = [0; 23];
+    for _ in 0..4000 {
+        seed = random(seed);
+        let span = 1 << (seed % 12);
+        let (windows, count) = hours_of(seed, span);
+        seed = random(seed);
+        let minute = minute_of(seed);
+        seed = random(seed);
+        let length = length_of(&windows, seed, span);
+        let answer = lodge::earliest(&windows, count, minute, length);
+        match answer {
+            Ok(t) if t == minute => at_once += 1,
+            Ok(t) if t / 10080 == minute / 10080 => this_week += 1,
+            Ok(t) if t >> 32 == 0 => later += 1,
+            Ok(_) => above += 1,
+            Err(n) => refusals[n as usize] += 1,
+        }
+        digest = match answer {
+            Ok(t) => mixed(mixed(digest, 0), t),
+            Err(n) => mixed(mixed(digest, 1), n),
+        };
+    }
+    eprintln!("hours: {at_once} at once, {this_week} in the same week, {later} in the next, {above} from 2^32 on, {} and {} refused as 21 and 22", refusals[21], refusals[22]);
+    digest
+}
+
 fn main() {
     println!("heap  {:016X}", heap_digest());
     println!("index {:016X}", index_digest());
@@ -208,4 +283,5 @@ fn main() {
     for window in [0, 1, 2, 64, 1000, 4095, 4096, 4097] {
         println!("peak {window:<4} {:016X}", peak_digest(window));
     }
+    println!("hours {:016X}", hours_digest());
 }

@@ -1,0 +1,4 @@
+pub mod Hours
+pub mod Search
+pub mod Firsts
+pub mod Theorem
