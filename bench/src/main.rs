@@ -127,6 +127,36 @@ fn loops(channels: usize, pool: &Arc<[f32]>) {
     show(&format!("{what}, {channels} ch"), times, 64);
 }
 
+/// Paper 14: 64 samples by the table's entries from 256 on, against the curve that the table stands for. Compared on samples, timed on
+/// zeros, which do not die out.
+fn previews() {
+    const STEP: f32 = 1.0 / 1024.0;
+    let (first, phase) = black_box((256, 0.25));
+    for (rising, way) in [(true, "rising"), (false, "falling")] {
+        let curve = |row: &mut [f32]| port::fade(row, black_box(true), rising, phase, STEP);
+        let theirs = |scratch: &mut BufferMut| {
+            rust::fade(scratch, black_box(64), black_box(true), rising, phase, STEP)
+        };
+        let (mut a, mut b, mut c) = ([0.5; 64], [0.5; 64], filled(1));
+        port::preview(&mut a, first, rising, 1);
+        curve(&mut b);
+        theirs(&mut c.buffer_mut());
+        same(way, &a, &b);
+        same(way, &a, c.buffer_mut().channel_f32_mut(0));
+        let (mut a, mut b, mut c) = ([0.0; 64], [0.0; 64], BufferVec::new(1));
+        let [table, ours, rusts] = best(
+            1_000_000,
+            [
+                &mut |n| port::preview(black_box(&mut a), first, rising, n),
+                &mut |n| timed(n, || curve(black_box(&mut b))),
+                &mut |n| timed(n, || theirs(&mut black_box(&mut c).buffer_mut())),
+            ],
+        );
+        show(&format!("{way}, our curve"), [table, ours], 64);
+        show(&format!("{way}, the Rust's curve"), [table, rusts], 64);
+    }
+}
+
 fn filled(channels: usize) -> BufferVec {
     let mut buffer = BufferVec::new(channels);
     for channel in 0..channels {
@@ -266,6 +296,8 @@ fn main() {
     for channels in [1, 8] {
         loops(channels, &pool);
     }
+    println!("\n| the preview, ns a sample | table | curve | ratio |\n|---|---:|---:|---:|");
+    previews();
     head("heap of 72-byte events, ns a call");
     for n in [16, 256] {
         heap(n);

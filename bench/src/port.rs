@@ -16,6 +16,13 @@ mod raw {
         );
         pub fn port_add(mix: *mut f32, n: usize, row: *const f32, k: usize);
         pub fn port_overlay(out: *mut f32, n: usize, mix: *const f32, k: usize);
+        pub fn port_preview(
+            row: *mut f32,
+            n: usize,
+            first: usize,
+            rising: bool,
+            rounds: u64,
+        ) -> u64;
         pub fn port_heap(rounds: u64, n: u64, pops: bool, digest: *mut u64, one: usize) -> u64;
         pub fn port_peak(
             rounds: u64,
@@ -84,6 +91,11 @@ pub fn add(mix: &mut [f32], row: &[f32]) {
 
 pub fn overlay(out: &mut [f32], mix: &[f32]) {
     unsafe { raw::port_overlay(out.as_mut_ptr(), out.len(), mix.as_ptr(), mix.len()) }
+}
+
+/// The time.
+pub fn preview(row: &mut [f32], first: usize, rising: bool, rounds: u64) -> u64 {
+    unsafe { raw::port_preview(row.as_mut_ptr(), row.len(), first, rising, rounds) }
 }
 
 /// The time, and a digest of the order.

@@ -1,3 +1,4 @@
 pub mod Walk
+pub mod Turns
 pub mod Samples
 pub mod Channels

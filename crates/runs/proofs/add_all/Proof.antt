@@ -5,7 +5,7 @@ use mathlib.Core.Path.{_∙_}
 use lib.Ieee.{nan}
 use lib.ListN.{length, getD}
 use Rattle.floats.specs.Arithmetic.{_+ˢ_}
-use Rattle.runs.proofs.Turns.{Turns, start, turn, done}
+use Rattle.runs.specs.Turns.{Turns, start, turn, done}
 use Rattle.runs.proofs.Walks.{walk-zipped}
 use Rattle.runs.proofs.add_all.Statement.{statement}
 use Rattle.runs.proofs.add_all.Tie as tie

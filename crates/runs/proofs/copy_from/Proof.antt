@@ -6,7 +6,7 @@ use mathlib.Core.Path.{_∙_}
 use lib.Ieee.{nan}
 use denote.Ref.{now}
 use lib.ListN.{length, getD}
-use Rattle.runs.proofs.Turns.{Turns, start, turn, done}
+use Rattle.runs.specs.Turns.{Turns, start, turn, done}
 use Rattle.runs.proofs.Walks.{walk-copy}
 use Rattle.runs.proofs.copy_from.Statement.{statement}
 use Rattle.runs.proofs.copy_from.Tie as tie

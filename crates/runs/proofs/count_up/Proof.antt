@@ -5,7 +5,7 @@ use mathlib.Core.Path.{_∙_}
 use lib.Ieee.{nan}
 use lib.ListN.{length}
 use Rattle.floats.specs.Arithmetic.{_+ˢ_}
-use Rattle.runs.proofs.Turns.{Turns, start, turn, done, final}
+use Rattle.runs.specs.Turns.{Turns, start, turn, done, final}
 use Rattle.runs.proofs.Walks.{walk-made, ends-steps}
 use Rattle.runs.proofs.count_up.Statement.{statement}
 use Rattle.runs.proofs.count_up.Tie as tie

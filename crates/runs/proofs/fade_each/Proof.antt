@@ -8,7 +8,7 @@ use Rattle.event.specs.Fades.{curve}
 use Rattle.floats.specs.Arithmetic.{_+ˢ_, _×ˢ_}
 use Rattle.runs.specs.Samples.{facing}
 use Rattle.runs.proofs.Fades.{fadedAll-walk}
-use Rattle.runs.proofs.Turns.{Turns, start, turn, done}
+use Rattle.runs.specs.Turns.{Turns, start, turn, done}
 use Rattle.runs.proofs.fade_each.Statement.{statement}
 use Rattle.runs.proofs.fade_each.Tie as tie
 

@@ -5,7 +5,7 @@ use mathlib.Core.Path.{_∙_}
 use lib.Ieee.{nan, ofBits}
 use lib.ListN.{length}
 use Rattle.floats.specs.Arithmetic.{_-ˢ_, oneᶠ}
-use Rattle.runs.proofs.Turns.{Turns, start, turn, done}
+use Rattle.runs.specs.Turns.{Turns, start, turn, done}
 use Rattle.runs.proofs.Walks.{walk-map}
 use Rattle.runs.proofs.flip.Statement.{statement}
 use Rattle.runs.proofs.flip.Tie as tie

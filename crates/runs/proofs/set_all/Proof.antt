@@ -5,7 +5,7 @@ use mathlib.Core.Path.{_∙_}
 use lib.Ieee.{nan}
 use lib.ListN.{length}
 use denote.Ref.{now}
-use Rattle.runs.proofs.Turns.{Turns, start, turn, done}
+use Rattle.runs.specs.Turns.{Turns, start, turn, done}
 use Rattle.runs.proofs.Walks.{walk-map, map-same}
 use Rattle.runs.proofs.set_all.Statement.{statement}
 use Rattle.runs.proofs.set_all.Tie as tie

@@ -6,7 +6,7 @@ use lib.Ieee.{nan}
 use lib.ListN.{length, getD}
 use Rattle.event.specs.Fades.{curve}
 use Rattle.floats.specs.Arithmetic.{_×ˢ_}
-use Rattle.runs.proofs.Turns.{Turns, start, turn, done}
+use Rattle.runs.specs.Turns.{Turns, start, turn, done}
 use Rattle.runs.proofs.Walks.{walk-zipped}
 use Rattle.runs.proofs.shape.Statement.{statement}
 use Rattle.runs.proofs.shape.Tie as tie
