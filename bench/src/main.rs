@@ -298,7 +298,7 @@ fn main() {
     }
     println!("\n| the preview, ns a sample | table | curve | ratio |\n|---|---:|---:|---:|");
     previews();
-    head("heap of 72-byte events, ns a call");
+    head("heap of 64-byte events, ns a call");
     for n in [16, 256] {
         heap(n);
     }

@@ -77,16 +77,16 @@ pub fn clear(output: &mut BufferMut, items: usize) {
 struct Event {
     start_time: f64,
     end_time: f64,
-    fade_ease: u8,
     fade_in: f64,
     fade_out: f64,
+    fade_ease: u8,
     source: (u32, u32, u32),
     value: f32,
     place: u32,
     id: u64,
 }
 
-const _: () = assert!(size_of::<Event>() == 72);
+const _: () = assert!(size_of::<Event>() == 64);
 
 impl Ord for Event {
     fn cmp(&self, other: &Self) -> Ordering {

@@ -1,8 +1,9 @@
 -- `sequencer::Sequencer::render_block` meets its contract. Assumes nothing.
 use borrow.Author.Needs.{needs}
 use mathlib.Core.List.{List, _++_, _∷_}
+use mathlib.Core.Logic.{⊎-elim}
 use mathlib.Core.Path.{_≡_, refl, sym, ap, _∙_, subst}
-use Prim.Native.Nat.{ℕ, zero, suc, _-_, _/_, _≤_, min}
+use Prim.Native.Nat.{ℕ, zero, suc, _-_, _/_, _^_, _≤_, _<_, min}
 use native.Mathlib.Nat.{sub-zero}
 use native.Mathlib.Omega.{arith}
 use borrow.Rule.Slice.PartMut.{same-len-mid}
@@ -18,7 +19,7 @@ use Rattle.sequencer.specs.declared.Sequencer.{Sequencer}
 use Rattle.sequencer.specs.Parts.{withSounding}
 use Rattle.sequencer.specs.Moves.{advanced}
 use Rattle.sequencer.specs.Rendering.{addBlock, blockPass, renderedBlock, renderedBlockOut}
-use Rattle.sequencer.specs.Steady.{Passing, passing-start, passing-on, passOf, passing-end}
+use Rattle.sequencer.specs.Steady.{Passing, passing-start, passing-on, passOf, passing-end, Scanning, scanning-start, scanning-on, steady}
 use Rattle.sequencer.proofs.Sequencer.render_block.Statement.{statement}
 use Rattle.sequencer.proofs.Sequencer.render_block.Tie as tie
 
@@ -42,61 +43,82 @@ Done pool n s S x e =
     (S ≡ withSounding (advanced s e) (r .items)) × (x ≡ r .sum)
 
 abbrev Inv-loop : tie.InvT-loop
-Inv-loop size pool out self₀ time end span m w mix₀ i₀ self mix i =
-    Passing (afterBlock (asSpan span)) (addBlock pool (asSpan span)) (replicate (clearedPlaces size) zeroᶠ) self₀ m i self (take w mix) × (length mix ≡ 64)
+Inv-loop size pool out self time end span limit threshold n k₀ k = Scanning limit self n k
 
 abbrev μ-loop : tie.MeasureT-loop
-μ-loop size pool out self₀ time end span m w mix₀ i₀ self mix i = m - i
+μ-loop size pool out self time end span limit threshold n k₀ k = n - k
 
-loop-holds : tie.Need-loop-holds Inv-loop μ-loop
+abbrev Inv-loop2 : tie.InvT-loop2
+Inv-loop2 size pool out self₀ time end span limit threshold n k m w mix₀ i₀ self mix i = Passing (afterBlock (asSpan span)) (addBlock pool (asSpan span)) (replicate (clearedPlaces size) zeroᶠ) self₀ m i self (take w mix) × (length mix ≡ 64)
+
+abbrev μ-loop2 : tie.MeasureT-loop2
+μ-loop2 size pool out self₀ time end span limit threshold n k m w mix₀ i₀ self mix i = m - i
+
+-- the engine's count of those let go is a u64
+let-go-fits : (c : tie.Start Inv-loop μ-loop Inv-loop2 μ-loop2) → c .args .t1 .«let_go» < 2 ^ 64
+let-go-fits c = search needs
+
+begun : (c : tie.Joined2 Inv-loop μ-loop Inv-loop2 μ-loop2) → (let s = c .before .before .before .before .before .before .before .before .before .args .t1 in c .if2 .self ≡ advanced s (endBy s (c .before .before .before .before .before .before .nearest-u64-to-f64 .result)))
 unfolding ofBits
-loop-holds c =
+begun c =
+    let s = c .before .before .before .before .before .before .before .before .before .args .t1 in
+    ⊎-elim (λ w. w .2 ∙ w .1 .ensures) (λ w. w .1 ∙ steady (endBy s (c .before .before .before .before .before .before .nearest-u64-to-f64 .result)) (let-go-fits (c .before .before .before .before .before .before .before .before .before)) (c .before .before .before .before .loop .inv) (c .before .lists-change .ensures) (w .0 .left)) (c .if2 .came)
+
+loop-again : tie.Need-loop-again Inv-loop μ-loop Inv-loop2 μ-loop2
+loop-again c = scanning-on (c .before .before .before .loop-test .taken) (c .if1 .left) (c .before .before .before .before .loop .inv)
+
+loop2-holds : tie.Need-loop2-holds Inv-loop μ-loop Inv-loop2 μ-loop2
+unfolding ofBits
+loop2-holds c =
     let k = c .cleared-places .result in
-    (passing-start (c .before .least .ensures) (take-replicate k 64 zeroᶠ (omega (arith, c .cleared-places .ensures)) ∙ ap (λ (n : ℕ). replicate n zeroᶠ) (c .cleared-places .ensures)), refl)
+    (passing-start (c .before .least2 .ensures) (take-replicate k 64 zeroᶠ (omega (arith, c .cleared-places .ensures)) ∙ ap (λ (n : ℕ). replicate n zeroᶠ) (c .cleared-places .ensures)), refl)
 
-part-mix-end : tie.Need-part-mix-end Inv-loop μ-loop
-part-mix-end c = omega (arith, c .before .before .before .cleared-places .ensures, c .before .before .loop .inv .1)
+part-mix-end : tie.Need-part-mix-end Inv-loop μ-loop Inv-loop2 μ-loop2
+part-mix-end c = omega (arith, c .before .before .before .cleared-places .ensures, c .before .before .loop2 .inv .1)
 
-mul-event-2 : tie.Need-mul-event-2 Inv-loop μ-loop
-mul-event-2 c = omega (arith, c .before .before .before .before .before .loop .inv .0 .count, c .before .before .before .before .loop-test .taken)
+mul-event-3 : tie.Need-mul-event-3 Inv-loop μ-loop Inv-loop2 μ-loop2
+mul-event-3 c = omega (arith, c .before .before .before .before .before .loop2 .inv .0 .count, c .before .before .before .before .loop2-test .taken)
 
-element-set-from-event : tie.Need-element-set-from-event Inv-loop μ-loop
-element-set-from-event c = omega (arith, c .before .before .before .before .before .loop .inv .0 .count, c .before .before .before .before .loop-test .taken)
+element-set-from-event : tie.Need-element-set-from-event Inv-loop μ-loop Inv-loop2 μ-loop2
+element-set-from-event c = omega (arith, c .before .before .before .before .before .loop2 .inv .0 .count, c .before .before .before .before .loop2-test .taken)
 
-loop-again : tie.Need-loop-again Inv-loop μ-loop
-loop-again c =
+loop2-again : tie.Need-loop2-again Inv-loop μ-loop Inv-loop2 μ-loop2
+loop2-again c =
     let k = c .before .before .before .before .before .before .cleared-places .result in
-    let l = c .before .before .before .before .before .loop in
+    let l = c .before .before .before .before .before .loop2 in
     let r = c .before .process-event in
     let ys = r .last .1 .1 .1 .0 in
     let kept = r .kept .1 .1 .1 .0 in
     let h : k ≤ length (l .mix) = omega (arith, c .before .before .before .before .before .before .cleared-places .ensures, l .inv .1) in
     let q : take k (ys ++ drop (k - 0) (l .mix)) ≡ ys = take-at ys (drop (k - 0) (l .mix)) k (kept ∙ rw sub-zero (length-take-le k (l .mix) h)) in
-    let a = c .before .before .before .before .before .before .before .before .before .before .before .before .args in
-    let b = until (a .t1) (a .size) (endBy (a .t1) (c .before .before .before .before .before .before .before .before .before .nearest-u64-to-f64 .result)) in
+    let a = c .before .before .before .before .before .before .before .before .before .before .before .before .before .before .before .before .before .args in
+    let b = until (a .t1) (a .size) (endBy (a .t1) (c .before .before .before .before .before .before .before .before .before .before .before .before .before .before .nearest-u64-to-f64 .result)) in
     let v : ys ≡ channelAfter (now (a .pool)) b (getD (l .self .active) (l .i) blank) (take k (l .mix)) = r .ensures .1 ∙ rw sub-zero in (
-      passing-on (r .ensures .0) (q ∙ v) (c .before .before .before .before .loop-test .taken) (l .inv .0),
+      passing-on (r .ensures .0) (q ∙ v) (c .before .before .before .before .loop2-test .taken) (l .inv .0),
       same-len-mid 0 (k - 0) (l .mix) ys kept ∙ l .inv .1,
     )
 
-part-overlay-channels-end : tie.Need-part-overlay-channels-end Inv-loop μ-loop
-part-overlay-channels-end c = omega (arith, c .before .before .before .before .cleared-places .ensures, c .before .before .before .loop .inv .1)
+part-overlay-channels-end : tie.Need-part-overlay-channels-end Inv-loop μ-loop Inv-loop2 μ-loop2
+part-overlay-channels-end c = omega (arith, c .before .before .before .before .cleared-places .ensures, c .before .before .before .loop2 .inv .1)
 
-returns : tie.Need-returns Inv-loop μ-loop
+returns : tie.Need-returns Inv-loop μ-loop Inv-loop2 μ-loop2
 unfolding renderedBlock renderedBlockOut blockPass
 returns c =
-    let a = c .before .before .before .before .before .before .before .before .before .before .before .before .before .before .args in
+    let a = c .before .before .before .before .before .before .before .before .before .before .before .before .before .before .before .before .before .before .before .args in
     let out = now (a .out) in
     let k = c .before .before .before .before .before .before .before .before .cleared-places .result in
-    let l = c .before .before .before .before .before .before .before .loop in
-    let q = ap (endBy (a .t1)) (c .before .before .before .before .before .before .before .before .before .before .before .nearest-u64-to-f64 .ensures ∙ sym (whole-is (a .size))) in
-    let w = subst (Done (now (a .pool)) (a .size) (a .t1) (l .self) (take k (l .mix))) q (passing-end (c .before .before .before .before .before .before .before .before .before .before .begin .ensures) (c .before .before .before .before .before .before .loop-test .left) (l .inv .0)) in
+    let l = c .before .before .before .before .before .before .before .loop2 in
+    let q = ap (endBy (a .t1)) (c .before .before .before .before .before .before .before .before .before .before .before .before .before .before .before .before .nearest-u64-to-f64 .ensures ∙ sym (whole-is (a .size))) in
+    let w = subst (Done (now (a .pool)) (a .size) (a .t1) (l .self) (take k (l .mix))) q (passing-end (begun (c .before .before .before .before .before .before .before .before .before .before)) (c .before .before .before .before .before .before .loop2-test .left) (l .inv .0)) in
     let p : take (k - 0) (l .mix) ≡ take k (l .mix) = rw sub-zero in
     (w .0, c .before .before .overlay-channels .ensures ∙ ap (λ (run : List Float). overlay (length out / 64) (take 64 run) out) (p ∙ w .1))
 
 pub render-block-spec : {M : Type 1} → statement M
 render-block-spec =
     tie.close
-    (tie.spec Inv-loop μ-loop (λ c κs. search needs) (λ c κs. search needs) (λ c κs. search needs) (λ c κs. search needs) loop-holds (λ c. search needs) (λ c. search needs) (λ c. search needs) (λ c. search needs) part-mix-end
-    (λ c κs. search needs) mul-event-2 element-set-from-event (λ c. search needs) (λ c. search needs) loop-again (λ c. search needs) (λ c. search needs) part-overlay-channels-end
-    (λ c κs. search needs) (λ c. search needs) returns)
+    (tie.spec Inv-loop μ-loop Inv-loop2 μ-loop2 (λ c κs. search needs) (λ c κs. search needs) (λ c. scanning-start (c .least .ensures))
+    (λ c. search needs) (λ c. search needs) (λ c. search needs) (λ c. search needs) loop-again (λ c. search needs) (λ c κs. search needs)
+    (λ c κs. search needs) (λ c κs. search needs) (λ c κs. search needs) loop2-holds (λ c. search needs) (λ c. search needs)
+    (λ c. search needs) (λ c. search needs) part-mix-end (λ c κs. search needs) mul-event-3 element-set-from-event (λ c. search needs)
+    (λ c. search needs) loop2-again (λ c. search needs) (λ c. search needs) part-overlay-channels-end (λ c κs. search needs)
+    (λ c. search needs) returns)
