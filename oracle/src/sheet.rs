@@ -1,4 +1,4 @@
-//! Document 01's example tape and proof sheet, held against the original and the ledger.
+//! Document 01's example tape and proof sheet, case 6 as document 02's Paper 3 has it, held against the original and the ledger.
 
 use crate::desk::Desk;
 use crate::engine::Engine;
@@ -106,9 +106,9 @@ const CASES: &[Case] = &[
             0.5,
             0.896484375,
             1.0,
-            1.220703125,
-            3.375,
-            11.388671875,
+            1.0,
+            1.0,
+            1.0,
         ])],
     },
     Case {

@@ -1,7 +1,9 @@
 //! Each mutated ledger is caught by the driver within 200 tapes of a fitting profile, and where states are compared the driver
 //! names the parts that differ.
 
-use std::process::{Command, Output};
+use oracle::text::from_text;
+use std::io::Write;
+use std::process::{Command, Output, Stdio};
 
 /// What is compared: listings, an engine's states, or a desk's listings and states.
 const LISTING: &[&str] = &[];
@@ -75,6 +77,11 @@ fn fade_counted_by_rate() {
 }
 
 #[test]
+fn fade_counted_from_the_edge() {
+    caught(LISTING, "fades", "fade-from-edge");
+}
+
+#[test]
 fn push_takes_an_edit() {
     caught(LISTING, "edits", "push-takes-edit");
     named(STATES, "edits", "push-takes-edit", "sounding, edits");
@@ -90,6 +97,32 @@ fn reset_empties_edits() {
 fn block_as_n_ticks() {
     caught(LISTING, "blocks", "block-as-ticks");
     named(STATES, "blocks", "block-as-ticks", "clock, threshold");
+}
+
+/// Document 02, Paper 3: the slip shows in the example tape, whose block leaves the clip sounding, while two ticks leave it
+/// finished.
+#[test]
+fn block_as_n_ticks_in_the_example() {
+    let tape = "create 1 all 1\nrate 8\npush 0 0.125 0 0 smooth held 1\nblock 2\n";
+    let block = |arguments: &[&str]| {
+        let mut child = Command::new(env!("CARGO_BIN_EXE_ledger-trail"))
+            .args(arguments)
+            .stdin(Stdio::piped())
+            .stdout(Stdio::piped())
+            .spawn()
+            .expect("the ledger runs");
+        let mut stdin = child.stdin.take().expect("it is piped");
+        stdin
+            .write_all(&from_text(tape).expect("a tape"))
+            .expect("it reads");
+        drop(stdin);
+        let listing = child.wait_with_output().expect("it ends").stdout;
+        let listing = String::from_utf8(listing).expect("a listing is text");
+        listing.lines().nth(3).map(String::from)
+    };
+    assert_eq!(block(&[]).as_deref(), Some("07 0 0 1 0 0"));
+    let mutated = block(&["--mutation", "block-as-ticks"]);
+    assert_eq!(mutated.as_deref(), Some("07 0 0 0 1 0"));
 }
 
 #[test]

@@ -1,5 +1,5 @@
 -- Document 01, "Block samples": what the sounding events add to a block, and where their sources stand after it. A channel is a list of samples; one faded run serves every channel.
-use Prim.Native.Nat.{ℕ, zero, suc, _-_, min}
+use Prim.Native.Nat.{ℕ, zero, suc, _-_, min, max}
 use mathlib.Core.Bool.{Bool, true, false, _&&_, cond}
 use mathlib.Core.List.{List, [], _∷_, _++_}
 use mathlib.Core.Option.{Option, none, some}
@@ -34,7 +34,7 @@ firstPlace b e = cond (e .«start_time» ≤ᶠ b .clock) 0 (min (b .size) (inde
 unfoldable pub endPlace : Span → Event → ℕ
 endPlace b e = cond (b .upto ≤ᶠ e .«end_time») (b .size) (min (b .size) (index ((e .«end_time» -ᵈ b .clock) ×ᵈ b .rate)))
 
--- ---- The fades, as in the Rust's `fade_in` and `fade_out`: their places count from the block's edge, and are used in the scratch.
+-- ---- The fades, as in the Rust's `fade_in` and `fade_out` with document 02's Paper 3: "a fade belongs to the clip". Their places count from the block's edge, the scratch's from s.
 
 -- A run times the curve, at `phase` and then one `step` further for each sample. A rising fade takes the curve at the phase, a falling one at 1 - phase.
 unfoldable pub fadedAll : Fade → (rising : Bool) → (phase step : Float) → List Float → List Float
@@ -58,30 +58,34 @@ fadeOutPlace b e =
     let bottom = e .«end_time» -ᵈ e .«fade_out» in
     cond (bottom ≤ᶠ b .clock) 0 (min 64 (index ((bottom -ᵈ b .clock) ÷ᵈ b .duration)))
 
--- `fade_in`, from scratch place 0 with the phase of block place s
+-- the phase of block place i in a fade from `bottom` to `top`: narrow((t + i × d - bottom) / (top - bottom))
+unfoldable pub phaseAt : Span → (i : ℕ) → (bottom top : Float) → Float
+phaseAt b i bottom top = narrowed (delerped bottom top (b .clock +ᵈ whole i ×ᵈ b .duration))
+
+-- how far the phase goes for each sample of a fade: narrow(d / fade)
+unfoldable pub phaseStep : Span → (fade : Float) → Float
+phaseStep b fade = narrowed (b .duration ÷ᵈ fade)
+
+-- `fade_in`. Paper 3: "The fade-in covers scratch places below its end place minus s, and none if that is negative", from the phase of block place s on.
 unfoldable pub runFadedIn : Span → (s z : ℕ) → Event → List Float → List Float
 runFadedIn b s z e l =
     let top = e .«start_time» +ᵈ e .«fade_in» in
     cond (zeroᶠ <ᶠ e .«fade_in» && b .clock <ᶠ top)
-    (faded (e .«fade_ease») true 0 (fadeInPlace b z e)
-    (narrowed (delerped (e .«start_time») top (b .clock +ᵈ whole s ×ᵈ b .duration)))
-    (narrowed (b .duration ÷ᵈ e .«fade_in»)) l)
+    (faded (e .«fade_ease») true 0 (fadeInPlace b z e - s) (phaseAt b s (e .«start_time») top) (phaseStep b (e .«fade_in»)) l)
     l
 
--- `fade_out`, from its place up to z; one that starts after z fades nothing
-unfoldable pub runFadedOut : Span → (z : ℕ) → Event → List Float → List Float
-runFadedOut b z e l =
+-- `fade_out`. Paper 3: "The fade-out begins at block place max(its place, s), with the phase of that place, and touches scratch from there minus s up to z minus s." One that begins after z fades nothing.
+unfoldable pub runFadedOut : Span → (s z : ℕ) → Event → List Float → List Float
+runFadedOut b s z e l =
     let bottom = e .«end_time» -ᵈ e .«fade_out» in
-    let i = fadeOutPlace b e in
+    let i = max (fadeOutPlace b e) s in
     cond (zeroᶠ <ᶠ e .«fade_out» && bottom <ᶠ b .upto)
-    (faded (e .«fade_ease») false i z
-    (narrowed (delerped bottom (e .«end_time») (b .clock +ᵈ whole i ×ᵈ b .duration)))
-    (narrowed (b .duration ÷ᵈ e .«fade_out»)) l)
+    (faded (e .«fade_ease») false (i - s) (z - s) (phaseAt b i bottom (e .«end_time»)) (phaseStep b (e .«fade_out»)) l)
     l
 
 -- the source's z - s samples with both fades
 abbrev pub fadedRun : (pool : List Float) → Span → (s z : ℕ) → Event → List Float
-fadedRun pool b s z e = runFadedOut b z e (runFadedIn b s z e (given pool (e .unit) (z - s)))
+fadedRun pool b s z e = runFadedOut b s z e (runFadedIn b s z e (given pool (e .unit) (z - s)))
 
 -- ---- One event. If z > s its run is added to the channel at s + k, the scratch holds the run, and the source has moved on by z - s.
 
@@ -134,5 +138,5 @@ overlayScratch c run (some l) = some (overlay c run l)
 
 -- What a case that computes must unfold.
 unfoldable pub computes : Unit {0}
-unfolding add sub mul div lt le round ofBits whole delerped narrowed index curve made steps fadedAll faded fadeInPlace fadeOutPlace runFadedIn runFadedOut firstPlace endPlace addAt channelAfter scratchAfter afterBlock blockSum overlay
+unfolding add sub mul div lt le round ofBits whole delerped narrowed index curve made steps fadedAll faded fadeInPlace fadeOutPlace phaseAt phaseStep runFadedIn runFadedOut firstPlace endPlace addAt channelAfter scratchAfter afterBlock blockSum overlay
 computes = tt

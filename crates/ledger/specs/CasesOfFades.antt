@@ -1,16 +1,16 @@
--- Document 01, "Tick samples" and "Block samples": the fades. Samples are bits, as the Rust's listing prints them for these calls (oracle-trail). Assumes nothing.
+-- Document 01, "Tick samples" and "Block samples", with document 02's Paper 3: the fades. Samples are bits, as the Rust's listing prints them for these calls (oracle-trail). Assumes nothing.
 use Prim.Native.Nat.{ℕ}
 use mathlib.Core.Path.{_≡_, refl}
 use mathlib.Core.Bool.{false}
 use mathlib.Core.List.{List, [], _∷_, _++_}
 use lib.IntN.{pos, negsuc}
 use lib.ListN.{take, drop, replicate}
-use lib.Ieee.{Float, nan, fin, neg, toBits}
+use lib.Ieee.{Float, fin, neg, toBits}
 use Rattle.floats.specs.Arithmetic.{zeroᶠ, oneᶠ, halfᶠ, +∞, -∞, whole}
 use Rattle.event.specs.declared.Fade.the-variants.{Power, Smooth}
 use Rattle.event.specs.declared.ReplayMode.the-variants.{All}
 use Rattle.event.specs.declared.Source.the-variants.{Held, Ramp}
-use Rattle.ledger.specs.Calls.{Call, push, rate, absolute}
+use Rattle.ledger.specs.Calls.{Call, push, edit, rate, absolute, absoluteEnd}
 use Rattle.ledger.specs.Ledger.{fresh}
 use Rattle.ledger.specs.Steps.{run, withLists}
 use Rattle.ledger.specs.Cases.{held1, decimal, one-tick, blockOf, outsOf, lastOut, bits, repliesAt}
@@ -61,10 +61,36 @@ fade-in-first = (refl, refl)
 
 -- ---- blocks
 
--- "fades apply as in `fade_in` and `fade_out`, including their block-counted places in the scratch": the fade-out starts at place 4 of the block, and its place 4 in the scratch is place 6 of the channel.
-pub block-counted-place : drop 2 (blockAt (whole 8) 8 (held1 (fin false 1 (negsuc 1)) oneᶠ zeroᶠ halfᶠ)) ≡ replicate 5 0x3f800000 ++ (0x3f658000 ∷ [])
+-- Paper 3, "a fade belongs to the clip". Case 6 of document 01: of a clip that begins at place 8 the fade-in covers four places, and no more.
+pub late-fade-in : drop 7 (blockAt (whole 8) 16 (held1 oneᶠ +∞ halfᶠ zeroᶠ)) ≡ 0 ∷ 0 ∷ 0x3dd40000 ∷ 0x3f000000 ∷ 0x3f658000 ∷ replicate 4 0x3f800000
 unfolding blockAt whole
-block-counted-place = refl
+late-fade-in = refl
+
+-- "The fade-out begins at block place max(its place, s) .. and touches scratch from there minus s": a clip from place 2 on, whose fade-out begins at place 4.
+pub late-fade-out : drop 1 (blockAt (whole 8) 8 (held1 (fin false 1 (negsuc 1)) oneᶠ zeroᶠ halfᶠ)) ≡ 0 ∷ 0x3f800000 ∷ 0x3f800000 ∷ 0x3f800000 ∷ 0x3f658000 ∷ 0x3f000000 ∷ 0x3dd40000 ∷ []
+unfolding blockAt whole
+late-fade-out = refl
+
+-- "with the phase of that place": stored edits make fade-outs that begin between clock and start, and before the clock. The clip begins at place 4.
+unfoldable pub editedOut : (fade-out : Float) → List ℕ
+unfolding repliesAt toBits whole
+editedOut x = bits (take 8 (lastOut (repliesAt (whole 8) (held1 halfᶠ oneᶠ zeroᶠ zeroᶠ ∷ edit absoluteEnd 1 oneᶠ x ∷ blockOf 8 ∷ []))))
+
+pub raised-fade-out :
+    (editedOut (fin false 7 (negsuc 2)) ≡ replicate 4 0 ++ (0x3f21d275 ∷ 0x3ebc5b14 ∷ 0x3e142ca7 ∷ 0x3cbe9460 ∷ []))
+    × (editedOut (whole 2) ≡ replicate 4 0 ++ (0x3dd40000 ∷ 0x3d47c200 ∷ 0x3c838000 ∷ 0x3b116000 ∷ []))
+unfolding editedOut whole
+raised-fade-out = (refl, refl)
+
+-- s is by × r and places by ÷ d. A fade-out over a whole clip begins one place after s (0.5 - 2 ^ -54 at rate 7: s is 3, and place 4 that of 0.5), or one before it, and is raised (0.3 at rate 5: s is 2, its place 1).
+abbrev near-half : Float
+near-half = fin false 9_007_199_254_740_991 (negsuc 53)
+
+pub fade-out-beside-s :
+    (blockAt (whole 7) 8 (held1 near-half oneᶠ zeroᶠ halfᶠ) ≡ replicate 3 0 ++ (0x3f800000 ∷ 0x3f7a0b56 ∷ 0x3f21d275 ∷ 0x3e142ca7 ∷ 0 ∷ []))
+    × (blockAt (whole 5) 8 (held1 (decimal 3 1) (decimal 13 1) zeroᶠ oneᶠ) ≡ 0 ∷ 0 ∷ 0x3f7dcefc ∷ 0x3f564064 ∷ 0x3f000000 ∷ 0x3e26fe72 ∷ 0x3c0c3f44 ∷ 0 ∷ [])
+unfolding blockAt whole decimal
+fade-out-beside-s = (refl, refl)
 
 -- A fade through three blocks of 4, 8 and 4: its phase is taken anew at each block's beginning.
 unfoldable pub threeBlocks : List ℕ
@@ -82,7 +108,7 @@ unfolding repliesAt toBits whole decimal
 anywhere cs = bits (take 12 (lastOut (repliesAt (whole 10) (one-tick ∷ push absolute (fin false 1 (negsuc 1)) (decimal 193 2) (decimal 31 2) (decimal 77 2) Power (Ramp oneᶠ (fin false 5_033_165 (negsuc 23))) ∷ cs))))
 
 pub block-anywhere :
-    (anywhere (blockOf 12 ∷ []) ≡ 0 ∷ 0 ∷ 0x3e8121fc ∷ 0x3f64e6c6 ∷ 0x3fc34c89 ∷ 0x3fee28dc ∷ 0x3fd54a87 ∷ 0x401fffff ∷ 0x40333332 ∷ 0x40466665 ∷ 0x40599998 ∷ 0x406ccccb ∷ [])
+    (anywhere (blockOf 12 ∷ []) ≡ 0 ∷ 0 ∷ 0x3e8121fc ∷ 0x3f64e6c6 ∷ 0x3fc34c89 ∷ 0x3ff33332 ∷ 0x400ccccc ∷ 0x401fffff ∷ 0x40333332 ∷ 0x40466665 ∷ 0x40599998 ∷ 0x406c0073 ∷ [])
     × (anywhere (blockOf 12 ∷ blockOf 12 ∷ []) ≡ 0x40758217 ∷ 0x407292ae ∷ 0x4061fc04 ∷ 0x404342ab ∷ 0x40169ad4 ∷ 0x3fb997fb ∷ replicate 6 0)
 unfolding anywhere
 block-anywhere = (refl, refl)
@@ -136,10 +162,28 @@ pub late-block-fades :
 unfolding late
 late-block-fades = (refl, refl, refl)
 
--- Where start + fade-in is the start, the phase is a NaN: a tick does not fade, a block does (DECISIONS, 5). Fade-in 2 ^ -60, start 1, at rate 8.
-abbrev vanishing : Call
-vanishing = held1 oneᶠ +∞ (fin false 1 (negsuc 59)) zeroᶠ
+-- Where start + fade-in is the start, the width is 0. In a tick the phase is then a NaN and does not fade. Fade-in 2 ^ -60, start 1, at rate 8.
+abbrev tiny : Float
+tiny = fin false 1 (negsuc 59)
 
-pub vanishing-fade : (lastOut (repliesAt (whole 8) (vanishing ∷ blockOf 8 ∷ one-tick ∷ [])) ≡ oneᶠ ∷ []) × (take 9 (drop 7 (lastOut (repliesAt (whole 8) (vanishing ∷ blockOf 16 ∷ [])))) ≡ zeroᶠ ∷ replicate 8 nan)
+pub vanishing-tick : lastOut (repliesAt (whole 8) (held1 oneᶠ +∞ tiny zeroᶠ ∷ blockOf 8 ∷ one-tick ∷ [])) ≡ oneᶠ ∷ []
 unfolding repliesAt whole
-vanishing-fade = (refl, refl)
+vanishing-tick = refl
+
+-- In a block it covers the places from s below its end place, and its phase there is infinite (DECISIONS, 5): none at rate 8; one at rate 6, where 0.25 - 2 ^ -55 has s = 1 and place 2; none if that is negative (0.3 at rate 5: s = 2, place 1).
+abbrev near-quarter : Float
+near-quarter = fin false 9_007_199_254_740_991 (negsuc 54)
+
+pub vanishing-fade-in :
+    (drop 7 (blockAt (whole 8) 16 (held1 oneᶠ +∞ tiny zeroᶠ)) ≡ 0 ∷ replicate 8 0x3f800000)
+    × (blockAt (whole 6) 4 (held1 near-quarter +∞ tiny zeroᶠ) ≡ 0 ∷ 0xff800000 ∷ 0x3f800000 ∷ 0x3f800000 ∷ [])
+    × (blockAt (whole 5) 4 (held1 (decimal 3 1) +∞ tiny zeroᶠ) ≡ 0 ∷ 0 ∷ 0x3f800000 ∷ 0x3f800000 ∷ [])
+unfolding blockAt whole decimal
+vanishing-fade-in = (refl, refl, refl)
+
+-- The fade-out likewise: 0.15 at rate 10 has z = 2 and place 1; one that begins after z (0.25 - 2 ^ -55 at rate 6: z = 1, place 2) fades nothing.
+pub vanishing-fade-out :
+    (blockAt (whole 10) 4 (held1 zeroᶠ (decimal 15 2) zeroᶠ tiny) ≡ 0x3f800000 ∷ 0x7f800000 ∷ 0 ∷ 0 ∷ [])
+    × (blockAt (whole 6) 4 (held1 zeroᶠ near-quarter zeroᶠ tiny) ≡ 0x3f800000 ∷ 0 ∷ 0 ∷ 0 ∷ [])
+unfolding blockAt whole decimal
+vanishing-fade-out = (refl, refl)

@@ -33,12 +33,14 @@ unfoldable pub repliesOf : List Call → List Reply
 unfolding run atRate8
 repliesOf cs = run cs atRate8 .replies
 
--- A block is not n ticks: in case 6 the block's place 13 is 1.220703125, and the fourteenth tick gives 1.
+-- A block is not n ticks: the example tape's block of 2 leaves the clip, which ends at 0.125, sounding, and two ticks leave it finished. (Case 6 no longer tells the two apart: document 02, Paper 3.)
 pub block-is-not-ticks :
-    let late : Call = held1 oneᶠ +∞ halfᶠ zeroᶠ in
-    (take 1 (drop 13 (lastOut (repliesOf (late ∷ blockOf 16 ∷ [])))) ≡ 512ths 625 ∷ []) × (lastOut (repliesOf (late ∷ replicate 14 one-tick)) ≡ oneᶠ ∷ [])
-unfolding repliesOf
-block-is-not-ticks = (refl, refl)
+    let clip : Call = held1 zeroᶠ (fin false 1 (negsuc 2)) zeroᶠ zeroᶠ in
+    let block : Ledger = ledgerOf (clip ∷ blockOf 2 ∷ []) in
+    let ticks : Ledger = ledgerOf (clip ∷ one-tick ∷ one-tick ∷ []) in
+    (numbers (block .sounding) ≡ 1 ∷ []) × (numbers (block .finished) ≡ []) × (numbers (ticks .sounding) ≡ []) × (numbers (ticks .finished) ≡ 1 ∷ [])
+unfolding ledgerOf
+block-is-not-ticks = (refl, refl, refl, refl)
 
 -- After a finish i does not grow: of three, the first and the last end, and the last, which fills the first's place, is not skipped.
 pub moved-is-not-skipped :

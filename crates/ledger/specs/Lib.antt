@@ -12,6 +12,7 @@ pub mod CasesOfLists
 pub mod CasesOfRefusals
 pub mod CasesOfSamples
 pub mod CasesOfFades
+pub mod FadesByPlace
 pub mod Numbers
 pub mod FloatOrder
 pub mod NotNan

@@ -5,10 +5,12 @@ ghost use lib.ListN.{length};
 ghost use Rattle.event.specs.Events.{withUnit};
 ghost use Rattle.event.specs.Sources.{advancedBy};
 ghost use Rattle.ledger.specs.TickSamples.{fadedIn, fadedOut, tickSample, afterTick};
-ghost use Rattle.ledger.specs.BlockSamples.{firstPlace, endPlace, fadeInPlace, fadeOutPlace, runFadedIn, runFadedOut, fadedRun, addAt, channelAfter, afterBlock};
+ghost use Rattle.ledger.specs.BlockSamples.{firstPlace, endPlace, fadeInPlace, fadeOutPlace, phaseAt, phaseStep, runFadedIn, runFadedOut, fadedRun, addAt, channelAfter, afterBlock};
 ghost use Rattle.mixing.specs.Blocks.{asSpan, clearedPlaces};
 use event::Event;
+use runs::greatest;
 use runs::least;
+use runs::minus;
 
 // ---- a tick
 
@@ -137,37 +139,56 @@ fn fade_out_place(event: Event, span: Span) -> usize
     least(64, i as usize)
 }
 
+// The phase of block place i in a fade from `bottom` to `top`.
+fn phase_at(span: Span, i: usize, bottom: f64, top: f64) -> f32
+    ensures { λ r. ⌜ r ≡ phaseAt (asSpan span) i bottom top ⌝ }
+{
+    let at = span.clock + std::num::nearest_u64_to_f64(i as u64) * span.duration;
+    floats::narrow(math::delerp(bottom, top, at))
+}
+
+// How far the phase of a fade goes for each sample.
+fn phase_step(span: Span, fade: f64) -> f32
+    ensures { λ r. ⌜ r ≡ phaseStep (asSpan span) fade ⌝ }
+{
+    floats::narrow(span.duration / fade)
+}
+
 // The Rust's `fade_in`: `span` has its sample_duration, time and end_time, and `event` its ease, fade_duration and
-// fade_start_time. `output` is the event's run, which starts at block place `start_index`.
+// fade_start_time. `output` is the event's run, which starts at block place `start_index`. A fade belongs to the clip
+// (document 02, Paper 3): it covers the run's places below its end place minus `start_index`.
 pub fn fade_in(span: Span, start_index: usize, end_index: usize, event: Event, output: &mut [f32])
     ensures { λ _. ⌜ now (output .exit) ≡ runFadedIn (asSpan span) «start_index» «end_index» event (now (output .entry)) ⌝ }
 {
     let top = event.start_time + event.fade_in;
     if event.fade_in > 0.0 {
         if top > span.clock {
-            let to = fade_in_place(event, span, end_index);
-            let at = span.clock + std::num::nearest_u64_to_f64(start_index as u64) * span.duration;
-            let phase = floats::narrow(math::delerp(event.start_time, top, at));
-            let step = floats::narrow(span.duration / event.fade_in);
+            let place = fade_in_place(event, span, end_index);
+            let to = minus(place, start_index);
+            let phase = phase_at(span, start_index, event.start_time, top);
+            let step = phase_step(span, event.fade_in);
             let ease = event.fade_ease;
             runs::fade(output, 0, to, ease, true, phase, step);
         }
     }
 }
 
-// The Rust's `fade_out`, with the same arguments; `event` has its fade_end_time.
-pub fn fade_out(span: Span, _start_index: usize, end_index: usize, event: Event, output: &mut [f32])
-    ensures { λ _. ⌜ now (output .exit) ≡ runFadedOut (asSpan span) «end_index» event (now (output .entry)) ⌝ }
+// The Rust's `fade_out`, with the same arguments; `event` has its fade_end_time. It begins at its place in the block, or
+// where the run does if that is later, with the phase of that place.
+pub fn fade_out(span: Span, start_index: usize, end_index: usize, event: Event, output: &mut [f32])
+    ensures { λ _. ⌜ now (output .exit) ≡ runFadedOut (asSpan span) «start_index» «end_index» event (now (output .entry)) ⌝ }
 {
     let bottom = event.end_time - event.fade_out;
     if event.fade_out > 0.0 {
         if bottom < span.upto {
-            let from = fade_out_place(event, span);
-            let at = span.clock + std::num::nearest_u64_to_f64(from as u64) * span.duration;
-            let phase = floats::narrow(math::delerp(bottom, event.end_time, at));
-            let step = floats::narrow(span.duration / event.fade_out);
+            let place = fade_out_place(event, span);
+            let i = greatest(place, start_index);
+            let phase = phase_at(span, i, bottom, event.end_time);
+            let step = phase_step(span, event.fade_out);
+            let from = minus(i, start_index);
+            let to = minus(end_index, start_index);
             let ease = event.fade_ease;
-            runs::fade(output, from, end_index, ease, false, phase, step);
+            runs::fade(output, from, to, ease, false, phase, step);
         }
     }
 }

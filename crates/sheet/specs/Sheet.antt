@@ -68,9 +68,8 @@ pub record Sheet : Type 0 where
   pub case4 : map ticked (held1 zeroᶠ (decimal 625 4) zeroᶠ zeroᶠ ∷ held1 zeroᶠ (decimal 626 4) zeroᶠ zeroᶠ ∷ []) ≡ finishes-unheard ∷ sounds ∷ []
   -- 5. Held 1.0, start 0, end 1, smooth fade-out 0.5, block 16: four of 1, then 1, 0.896484375, 0.5, 0.103515625, then eight 0.
   pub case5 : block16 (held1 zeroᶠ oneᶠ zeroᶠ halfᶠ) ≡ replicate 4 oneᶠ ++ (oneᶠ ∷ 512ths 459 ∷ halfᶠ ∷ 512ths 53 ∷ replicate 8 zeroᶠ)
-  -- 6. Held 1.0, start 1, end +infinity, smooth fade-in 0.5, block 16: places 8 to 15 are 0, 0.103515625, 0.5, 0.896484375, 1, 1.220703125, 3.375, 11.388671875 (the last three are 625/512, 27/8 and 5831/512).
-  pub case6 : block16 (held1 oneᶠ +∞ halfᶠ zeroᶠ)
-      ≡ replicate 8 zeroᶠ ++ (zeroᶠ ∷ 512ths 53 ∷ halfᶠ ∷ 512ths 459 ∷ oneᶠ ∷ 512ths 625 ∷ fin false 27 (negsuc 2) ∷ 512ths 5831 ∷ [])
+  -- 6. Held 1.0, start 1, end +infinity, smooth fade-in 0.5, block 16: places 8 to 15. Document 02, Paper 3, in place of document 01's last three values: "Case 6 then reads 0, 0.103515625, 0.5, 0.896484375, 1, 1, 1, 1."
+  pub case6 : block16 (held1 oneᶠ +∞ halfᶠ zeroᶠ) ≡ replicate 8 zeroᶠ ++ (zeroᶠ ∷ 512ths 53 ∷ halfᶠ ∷ 512ths 459 ∷ replicate 4 oneᶠ)
   -- 7. Fade equal to end - start passes; fade 1.01 over 1 gives 4.
   pub case7 : answersOf (run (held1 zeroᶠ oneᶠ oneᶠ oneᶠ ∷ held1 zeroᶠ oneᶠ (decimal 101 2) zeroᶠ ∷ held1 zeroᶠ oneᶠ zeroᶠ (decimal 101 2) ∷ []) atRate8 .replies)
       ≡ number 1 ∷ refused 4 ∷ refused 4 ∷ []

@@ -8,6 +8,8 @@ pub enum Mutation {
     MovedEventSkipped,
     /// Fade places are counted by the rate, not by the sample duration.
     FadeByRate,
+    /// Fades are counted from the block's edge, as before document 02's Paper 3.
+    FadeFromEdge,
     /// A push straight to the sounding list takes a stored edit.
     PushTakesEdit,
     /// A reset in mode All empties the edits.
@@ -19,10 +21,11 @@ pub enum Mutation {
 }
 
 impl Mutation {
-    pub const ALL: [Mutation; 7] = [
+    pub const ALL: [Mutation; 8] = [
         Mutation::SwapOrderIgnored,
         Mutation::MovedEventSkipped,
         Mutation::FadeByRate,
+        Mutation::FadeFromEdge,
         Mutation::PushTakesEdit,
         Mutation::ResetEmptiesEdits,
         Mutation::BlockAsTicks,
@@ -34,6 +37,7 @@ impl Mutation {
             Mutation::SwapOrderIgnored => "swap-order-ignored",
             Mutation::MovedEventSkipped => "moved-event-skipped",
             Mutation::FadeByRate => "fade-by-rate",
+            Mutation::FadeFromEdge => "fade-from-edge",
             Mutation::PushTakesEdit => "push-takes-edit",
             Mutation::ResetEmptiesEdits => "reset-empties-edits",
             Mutation::BlockAsTicks => "block-as-ticks",

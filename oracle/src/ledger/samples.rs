@@ -1,4 +1,4 @@
-//! Document 01, Tick samples and Block samples: one event's part.
+//! Document 01, Tick samples and Block samples, and document 02, Paper 3: one event's part.
 
 use super::event::Event;
 use super::mutation::Mutation;
@@ -58,7 +58,7 @@ pub fn block(
     }
     let mut run: Vec<f32> = (s..z).map(|_| event.give(pool)).collect();
     fade_in(event, &mut run, s, z, times, mutation);
-    fade_out(event, &mut run, z, times, mutation);
+    fade_out(event, &mut run, s, z, times, mutation);
     (run, s)
 }
 
@@ -77,6 +77,7 @@ fn fade_place(time: f64, times: Times, mutation: Option<Mutation>) -> usize {
     at_most(index(samples), 64)
 }
 
+/// "The fade-in covers scratch places below its end place minus s, and none if that is negative."
 fn fade_in(
     event: &Event,
     run: &mut [f32],
@@ -90,34 +91,56 @@ fn fade_in(
     if !(event.fade_in > 0.0 && full > t) {
         return;
     }
-    let stop = if full >= e {
+    let end_place = if full >= e {
         z
     } else {
         fade_place(full, times, mutation)
     };
+    let from_edge = mutation == Some(Mutation::FadeFromEdge);
+    let below = end_place as i64 - if from_edge { 0 } else { s as i64 };
     let mut phase = narrow((t + s as f64 * d - event.start) / (full - event.start));
     let step = narrow(d / event.fade_in);
-    for sample in run.iter_mut().take(stop) {
+    for (place, sample) in (0..).zip(run) {
+        if place >= below {
+            break;
+        }
         *sample *= curve(event.curve, phase);
         phase += step;
     }
 }
 
-fn fade_out(event: &Event, run: &mut [f32], z: usize, times: Times, mutation: Option<Mutation>) {
+/// "The fade-out begins at block place max(its place, s), with the phase of that place, and touches scratch from there minus s
+/// up to z minus s."
+fn fade_out(
+    event: &Event,
+    run: &mut [f32],
+    s: usize,
+    z: usize,
+    times: Times,
+    mutation: Option<Mutation>,
+) {
     let Times { t, d, e, .. } = times;
     let begin = event.end - event.fade_out;
     if !(event.fade_out > 0.0 && begin < e) {
         return;
     }
-    let first = if begin <= t {
+    let its_place = if begin <= t {
         0
     } else {
         fade_place(begin, times, mutation)
     };
+    let s = if mutation == Some(Mutation::FadeFromEdge) {
+        0
+    } else {
+        s
+    };
+    let first = its_place.max(s);
     let mut phase = narrow((t + first as f64 * d - begin) / (event.end - begin));
     let step = narrow(d / event.fade_out);
-    for sample in run.iter_mut().take(z).skip(first) {
-        *sample *= curve(event.curve, 1.0 - phase);
-        phase += step;
+    for (place, sample) in (s..z).zip(run) {
+        if place >= first {
+            *sample *= curve(event.curve, 1.0 - phase);
+            phase += step;
+        }
     }
 }

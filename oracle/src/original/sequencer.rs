@@ -136,7 +136,8 @@ fn fade_in(
         } else {
             round((fade_end_time - time) / sample_duration) as usize
         }
-        .min(MAX_BUFFER_SIZE); // difference 3: fade places at most 64
+        .min(MAX_BUFFER_SIZE) // difference 3: fade places at most 64
+        .saturating_sub(start_index); // difference 6 (document 02, Paper 3): counted from the clip
         let fade_phase = delerp(
             fade_start_time,
             fade_end_time,
@@ -171,7 +172,7 @@ fn fade_out(
     sample_duration: f64,
     time: f64,
     end_time: f64,
-    _start_index: usize,
+    start_index: usize, // difference 6 (document 02, Paper 3): used
     end_index: usize,
     ease: Fade,
     fade_duration: f64,
@@ -185,7 +186,8 @@ fn fade_out(
         } else {
             round((fade_start_time - time) / sample_duration) as usize
         }
-        .min(MAX_BUFFER_SIZE); // difference 3: fade places at most 64
+        .min(MAX_BUFFER_SIZE) // difference 3: fade places at most 64
+        .max(start_index); // difference 6 (document 02, Paper 3): not before the clip
         let fade_phase = delerp(
             fade_start_time,
             fade_end_time,
@@ -193,6 +195,8 @@ fn fade_out(
         ) as f32;
         let fade_d = (sample_duration / fade_duration) as f32;
         let fade_i = fade_i.min(end_index); // difference 3: after z fades nothing
+        let fade_i = fade_i - start_index; // difference 6 (document 02, Paper 3): counted from the clip
+        let end_index = end_index - start_index; // difference 6 (document 02, Paper 3): likewise
         match ease {
             Fade::Power => {
                 for channel in 0..output.channels() {

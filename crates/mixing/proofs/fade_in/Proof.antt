@@ -1,6 +1,5 @@
 -- `mixing::fade_in` meets its contract. Assumes nothing.
 use lib.Ieee.{ofBits}
-use Rattle.floats.specs.Arithmetic.{whole-is}
 use Rattle.ledger.specs.BlockSamples.{runFadedIn}
 use borrow.Author.Needs.{needs}
 use Rattle.mixing.proofs.fade_in.Statement.{statement}
@@ -9,7 +8,9 @@ use Rattle.mixing.proofs.fade_in.Tie as tie
 returns : tie.Need-returns
 unfolding runFadedIn ofBits
 returns c =
-    rw (c .before .before .before .before .before .before .before .before .before .before .before .before .before .before .before .if1 .taken, c .before .before .before .before .before .before .before .before .before .before .before .before .before .if2 .taken, whole-is (c .before .before .before .before .before .before .before .before .before .before .before .before .before .before .before .before .before .before .before .args .start-index), ← c .before .before .before .before .before .before .before .before .before .before .before .before .fade-in-place .ensures, ← c .before .before .before .before .before .before .before .before .before .before .before .nearest-u64-to-f64 .ensures, ← c .before .before .before .before .before .before .before .before .delerp .ensures, ← c .before .before .before .before .before .before .before .narrow .ensures, ← c .before .before .before .before .narrow2 .ensures)
+    let m = c .before .before .before .before .before .before in
+    let p = m .before in
+    rw (p .before .before .before .if1 .taken, p .before .if2 .taken, ← p .fade-in-place .ensures, ← m .minus .ensures, ← c .before .before .before .before .before .phase-at .ensures, ← c .before .before .before .before .phase-step .ensures)
     (c .before .before .fade .ensures)
 
 returns-2 : tie.Need-returns-2
@@ -24,4 +25,4 @@ pub fade-in-spec : {M : Type 1} → statement M
 fade-in-spec =
     tie.close
     (tie.spec (λ c κs. search needs) (λ c κs. search needs) (λ c κs. search needs) (λ c κs. search needs) (λ c κs. search needs)
-    (λ c κs. search needs) (λ c. search needs) returns returns-2 returns-3)
+    (λ c. search needs) returns returns-2 returns-3)

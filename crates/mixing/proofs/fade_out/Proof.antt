@@ -1,6 +1,5 @@
 -- `mixing::fade_out` meets its contract. Assumes nothing.
 use lib.Ieee.{ofBits}
-use Rattle.floats.specs.Arithmetic.{whole-is}
 use Rattle.ledger.specs.BlockSamples.{runFadedOut}
 use borrow.Author.Needs.{needs}
 use Rattle.mixing.proofs.fade_out.Statement.{statement}
@@ -9,7 +8,10 @@ use Rattle.mixing.proofs.fade_out.Tie as tie
 returns : tie.Need-returns
 unfolding runFadedOut ofBits
 returns c =
-    rw (c .before .before .before .before .before .before .before .before .before .before .before .before .before .before .before .if1 .taken, c .before .before .before .before .before .before .before .before .before .before .before .before .before .if2 .taken, ← c .before .before .before .before .before .before .before .before .before .before .before .before .fade-out-place .ensures, whole-is (c .before .before .before .before .before .before .before .before .before .before .before .before .fade-out-place .result), ← c .before .before .before .before .before .before .before .before .before .before .before .nearest-u64-to-f64 .ensures, ← c .before .before .before .before .before .before .before .before .delerp .ensures, ← c .before .before .before .before .before .before .before .narrow .ensures, ← c .before .before .before .before .narrow2 .ensures)
+    let m = c .before .before .before .before in
+    let g = m .before .before .before .before in
+    let p = g .before in
+    rw (p .before .before .before .if1 .taken, p .before .if2 .taken, ← p .fade-out-place .ensures, ← g .greatest .ensures, ← m .before .before .before .phase-at .ensures, ← m .before .before .phase-step .ensures, ← m .before .minus .ensures, ← m .minus2 .ensures)
     (c .before .before .fade .ensures)
 
 returns-2 : tie.Need-returns-2
@@ -24,4 +26,4 @@ pub fade-out-spec : {M : Type 1} → statement M
 fade-out-spec =
     tie.close
     (tie.spec (λ c κs. search needs) (λ c κs. search needs) (λ c κs. search needs) (λ c κs. search needs) (λ c κs. search needs)
-    (λ c κs. search needs) (λ c. search needs) returns returns-2 returns-3)
+    (λ c κs. search needs) (λ c κs. search needs) (λ c. search needs) returns returns-2 returns-3)
