@@ -197,27 +197,46 @@ fn compare_loop(
     show(what, times, 64);
 }
 
-fn heap(n: u64) {
+fn heap(n: u64, equal: bool) {
     for pops in [false, true] {
-        let (ours, theirs) = (port::heap(3, n, pops), rust::heap(3, n, pops));
+        let (ours, theirs) = (port::heap(3, n, equal, pops), rust::heap(3, n, equal, pops));
         assert_eq!(ours.1, theirs.1, "heap: the orders differ");
     }
     let [our_push, push, our_both, both] = best(
         1_000_000,
         [
-            &mut |k| port::heap(k, n, false).0,
-            &mut |k| rust::heap(k, n, false).0,
-            &mut |k| port::heap(k, n, true).0,
-            &mut |k| rust::heap(k, n, true).0,
+            &mut |k| port::heap(k, n, equal, false).0,
+            &mut |k| rust::heap(k, n, equal, false).0,
+            &mut |k| port::heap(k, n, equal, true).0,
+            &mut |k| rust::heap(k, n, equal, true).0,
         ],
     );
     let n = n as usize;
-    show(&format!("push, up to {n} events"), [our_push, push], n);
+    let starts = if equal { ", equal starts" } else { "" };
     show(
-        &format!("pop, from {n} events"),
+        &format!("push, up to {n} events{starts}"),
+        [our_push, push],
+        n,
+    );
+    show(
+        &format!("pop, from {n} events{starts}"),
         [our_both - our_push, both - push],
         n,
     );
+}
+
+/// The heap's comparison alone, of 256 events, each with the next.
+fn comparison(equal: bool) {
+    let (ours, theirs) = (port::compare(3, equal), rust::compare(3, equal));
+    assert_eq!(ours.1, theirs.1, "comparison: the answers differ");
+    let times = best(
+        1_000_000,
+        [&mut |k| port::compare(k, equal).0, &mut |k| {
+            rust::compare(k, equal).0
+        }],
+    );
+    let starts = if equal { "equal" } else { "different" };
+    show(&format!("one comparison, {starts} starts"), times, 255);
 }
 
 /// The running peak over random samples, fed one at a time or in runs of 64, and read after each feed.
@@ -299,9 +318,11 @@ fn main() {
     println!("\n| the preview, ns a sample | table | curve | ratio |\n|---|---:|---:|---:|");
     previews();
     head("heap of 64-byte events, ns a call");
-    for n in [16, 256] {
-        heap(n);
+    for (n, equal) in [(16, false), (256, false), (16, true), (256, true)] {
+        heap(n, equal);
     }
+    comparison(false);
+    comparison(true);
     head("running peak, ns a sample");
     let noise: Vec<f32> = std::iter::successors(Some(2463534242), |&s| Some(rust::random(s)))
         .map(|s| s as i32 as f32)

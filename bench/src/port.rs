@@ -23,7 +23,15 @@ mod raw {
             rising: bool,
             rounds: u64,
         ) -> u64;
-        pub fn port_heap(rounds: u64, n: u64, pops: bool, digest: *mut u64, one: usize) -> u64;
+        pub fn port_heap(
+            rounds: u64,
+            n: u64,
+            equal: bool,
+            pops: bool,
+            digest: *mut u64,
+            one: usize,
+        ) -> u64;
+        pub fn port_compare(rounds: u64, equal: bool, digest: *mut u64, one: usize) -> u64;
         pub fn port_peak(
             rounds: u64,
             window: usize,
@@ -99,9 +107,16 @@ pub fn preview(row: &mut [f32], first: usize, rising: bool, rounds: u64) -> u64 
 }
 
 /// The time, and a digest of the order.
-pub fn heap(rounds: u64, n: u64, pops: bool) -> (u64, u64) {
+pub fn heap(rounds: u64, n: u64, equal: bool, pops: bool) -> (u64, u64) {
     let mut digest = 0;
-    let spent = unsafe { raw::port_heap(rounds, n, pops, &mut digest, 1) };
+    let spent = unsafe { raw::port_heap(rounds, n, equal, pops, &mut digest, 1) };
+    (spent, digest)
+}
+
+/// The time, and how many leave first.
+pub fn compare(rounds: u64, equal: bool) -> (u64, u64) {
+    let mut digest = 0;
+    let spent = unsafe { raw::port_compare(rounds, equal, &mut digest, 1) };
     (spent, digest)
 }
 

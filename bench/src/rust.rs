@@ -115,26 +115,32 @@ pub fn random(seed: u32) -> u32 {
     x ^ (x << 5)
 }
 
-pub fn heap(rounds: u64, n: u64, pops: bool) -> (u64, u64) {
+/// A random start, or one start and a random number.
+fn event(s: u32, i: u64, equal: bool) -> Event {
+    let (start, id) = if equal { (7, s as u64) } else { (s, i) };
+    Event {
+        start_time: start as f64,
+        end_time: 1.0,
+        fade_ease: 1,
+        fade_in: 0.5,
+        fade_out: 0.25,
+        source: (2, 7, 9),
+        value: 0.0,
+        place: 3,
+        id,
+    }
+}
+
+pub fn heap(rounds: u64, n: u64, equal: bool, pops: bool) -> (u64, u64) {
     let mut heap = BinaryHeap::with_capacity(256);
     let mut d = 0u64;
     let start = bench_now();
     for _ in 0..black_box(rounds) {
         heap.clear();
         let mut s = 2463534242;
-        for id in 0..n {
+        for i in 0..n {
             s = random(s);
-            heap.push(Event {
-                start_time: s as f64,
-                end_time: 1.0,
-                fade_ease: 1,
-                fade_in: 0.5,
-                fade_out: 0.25,
-                source: (2, 7, 9),
-                value: 0.0,
-                place: 3,
-                id,
-            });
+            heap.push(event(s, i, equal));
         }
         if pops {
             while let Some(event) = heap.pop() {
@@ -144,6 +150,24 @@ pub fn heap(rounds: u64, n: u64, pops: bool) -> (u64, u64) {
             d = d
                 .rotate_left(7)
                 .wrapping_add(black_box(&heap).peek().unwrap().id);
+        }
+    }
+    (bench_now() - start, d)
+}
+
+pub fn compare(rounds: u64, equal: bool) -> (u64, u64) {
+    let mut s = 2463534242;
+    let mut events = [event(0, 0, equal); 256];
+    for (i, e) in events.iter_mut().enumerate() {
+        s = random(s);
+        *e = event(s, i as u64, equal);
+    }
+    let mut d = 0u64;
+    let start = bench_now();
+    for _ in 0..black_box(rounds) {
+        for pair in black_box(&events).windows(2) {
+            // the first to leave is the greatest
+            d += (pair[0] > pair[1]) as u64;
         }
     }
     (bench_now() - start, d)

@@ -10,6 +10,7 @@ use Rattle.event.specs.declared.ReplayMode.the-variants.{All, None}
 use Rattle.event.specs.declared.Source.the-variants.{Held, Ramp, Clip}
 use Rattle.event.specs.declared.Fade.the-variants.{Power, Smooth}
 use Rattle.event.specs.Events.{earlier, editedBy, rewound}
+use Rattle.event.specs.StartsFirst.{startBits}
 use Rattle.event.specs.Fades.{curve}
 use Rattle.event.specs.Numbers.{modeNumber, curveNumber, sourceNumber, firstWord, secondWord}
 use Rattle.event.specs.Runs.{made, steps}
@@ -93,6 +94,11 @@ in-order = refl
 pub not-in-order : earlier (some-event oneᶠ 1) (some-event zeroᶠ 9) ∷ earlier (some-event zeroᶠ 2) (some-event zeroᶠ 1) ∷ earlier (some-event zeroᶠ 1) (some-event minus0 2) ∷ earlier (some-event zeroᶠ 1) (some-event zeroᶠ 1) ∷ [] ≡ false ∷ false ∷ false ∷ false ∷ []
 unfolding sooner totalLess lt eq isNan negative
 not-in-order = refl
+
+-- the bits of the two zeros differ, so that numbers do not count between them (Paper 2): 8000000000000000 and 0
+pub bits-of-zeros : startBits (some-event minus0 1) ∷ startBits (some-event zeroᶠ 1) ∷ [] ≡ 0x8000000000000000 ∷ 0 ∷ []
+unfolding toBits
+bits-of-zeros = refl
 
 -- "replace end and fade-out"
 pub edited-event : editedBy (record { «end_time» = 2ᶠ; «fade_out» = oneᶠ }) (some-event zeroᶠ 7) ≡ record {

@@ -3,7 +3,6 @@ ghost use mathlib.Core.Path.{_≡_};
 ghost use Rattle.event.specs.Events.{newEvent, editedBy, rewound, earlier};
 ghost use Rattle.event.specs.Fades.{curve};
 ghost use Rattle.event.specs.Sources.{firstValue, atStart, sampleOf, advanced};
-ghost use Rattle.floats.specs.Sooner.{sooner};
 use floats::Order;
 use math::sine_ease;
 use math::smooth5;
@@ -124,18 +123,6 @@ impl Unit {
     }
 }
 
-// Whether (a, i) comes before (b, j), by start and then by lower number.
-fn is_sooner(a: f64, i: u64, b: f64, j: u64) -> bool
-    ensures { λ r. ⌜ r ≡ sooner a i b j ⌝ }
-{
-    let order = floats::total_cmp(a, b);
-    match order {
-        Order::Less => true,
-        Order::Equal => i < j,
-        Order::Greater => false,
-    }
-}
-
 // A scheduled source.
 pub struct Event {
     pub start_time: f64,
@@ -211,12 +198,19 @@ impl Event {
         }
     }
 
-    // Whether the event leaves the waiting heap before the other.
+    // Whether the event leaves the waiting heap before the other: by start, and only where the starts are equal in bits by the lower number.
     pub fn precedes(self, other: Event) -> bool
         ensures { λ r. ⌜ r ≡ earlier self other ⌝ }
     {
-        let i = self.id;
-        let j = other.id;
-        is_sooner(self.start_time, i.0, other.start_time, j.0)
+        let order = floats::total_cmp(self.start_time, other.start_time);
+        match order {
+            Order::Less => true,
+            Order::Equal => {
+                let i = self.id;
+                let j = other.id;
+                i.0 < j.0
+            }
+            Order::Greater => false,
+        }
     }
 }

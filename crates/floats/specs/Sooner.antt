@@ -7,10 +7,10 @@ use native.Mathlib.Nat.{le-trans, lt-irrefl}
 use native.Mathlib.Omega.{arith}
 use lib.Dec.{T, ltb, ltb→lt, lt→ltb, nltb→le}
 use lib.Arith.{le→nltb}
-use lib.Ieee.{Float, Format, fits, toBits}
+use lib.Ieee.{Float}
 use lib.Ieee.Bits.{is-true, is-false}
 use Rattle.floats.specs.Floats.{totalLess, ordered}
-use Rattle.floats.specs.TotalOrder.{totalLess-irreflexive, totalLess-transitive, totalLess-asymmetric, totalLess-connected, not-totalLess-transitive}
+use Rattle.floats.specs.TotalOrder.{totalLess-irreflexive, totalLess-transitive, totalLess-asymmetric, not-totalLess-transitive}
 use Rattle.floats.specs.declared.Order.{Order}
 use Rattle.floats.specs.declared.Order.the-variants.{Less, Equal, Greater}
 
@@ -111,13 +111,3 @@ sooner-transitive x i y j z k p q = go (sooner x i z k) refl
     go : (t : Bool) → sooner x i z k ≡ t → t ≡ true
     go true h = refl
     go false h = absurd (true≢false (sym q ∙ not-sooner-transitive z k x i y j h (sooner-asymmetric x i y j p)))
-
--- between starts of different bits the numbers never change the answer
-pub numbers-late : (r : Format) (x y : Float) (i j i' j' : ℕ) → T (fits r x) → T (fits r y) → toBits r x ≢ toBits r y → sooner x i y j ≡ sooner x i' y j'
-unfolding sooner
-numbers-late r x y i j i' j' f g n = go (totalLess x y) (totalLess y x) refl refl
-  where
-    go : (p q : Bool) → totalLess x y ≡ p → totalLess y x ≡ q → (p || (not q && ltb i j)) ≡ (p || (not q && ltb i' j'))
-    go true q a b = refl
-    go false true a b = refl
-    go false false a b = absurd (n (ap (toBits r) (totalLess-connected r x y f g a b)))
