@@ -1,6 +1,7 @@
 pub mod Sift
 pub mod Waiting
 pub mod Steps
+pub mod Rounds
 pub mod HeapOrder
 pub mod Sorted
 pub mod Stands

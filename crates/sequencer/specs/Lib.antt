@@ -1,5 +1,6 @@
 pub mod Parts
 pub mod Moves
+pub mod Rounds
 pub mod Turns
 pub mod Answers
 pub mod Creation

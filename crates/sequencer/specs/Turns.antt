@@ -1,22 +1,23 @@
 -- One round of each loop that moves events, and the rounds that are the last.
 use mathlib.Core.Bool.{Bool, true, false, _&&_, cond, and-false}
 use mathlib.Core.List.{List}
-use mathlib.Core.Path.{_≡_, refl, sym, ap, _∙_}
+use mathlib.Core.Path.{_≡_, refl, sym, ap, _∙_, subst}
 use Prim.Native.Nat.{ℕ, zero, suc, _+_, _-_, _≤_, _<_}
 use native.Mathlib.Omega.{arith}
 use native.Mathlib.Numerals.{add-one}
 use borrow.Author.Tests.{lt-ltb, le-ltb, le-leb, lt-leb}
 use lib.Dec.{ltb, leb}
 use lib.Ieee.{Float, lt, le}
-use lib.ListN.{getD}
+use lib.ListN.{getD, set}
 use Rattle.event.specs.declared.Event.{Event}
 use Rattle.event.specs.Events.{blank, editedBy}
 use Rattle.ready.specs.Waiting.{popped}
+use Rattle.lists.specs.Index.{noId}
 use Rattle.lists.specs.declared.FoundEdit.{FoundEdit}
 use Rattle.lists.specs.declared.FoundEdit.the-variants.{Stored, Missing}
 use Rattle.lists.specs.Edits.{foundEdit, removed}
 use Rattle.sequencer.specs.declared.Sequencer.{Sequencer}
-use Rattle.sequencer.specs.Parts.{withEdits}
+use Rattle.sequencer.specs.Parts.{withActive, withPast, withEdits}
 use Rattle.sequencer.specs.Moves.{pushedReady, poppedReady, pushedActive, swapRemoved, pushedPast, activated, activatedBy, activates, finishes, heldAt, toReady}
 
 cond-same : {A B : Type 0} (f : A → B) (b : Bool) (x y : A) → f x ≡ f y → f (cond b x y) ≡ f y
@@ -98,8 +99,23 @@ swap-removed-len : (s : Sequencer) (i : ℕ) → i < s .«active_len» → s .«
 unfolding swapRemoved
 swap-removed-len s i p q = rw (lt-ltb i (s .«active_len») p, le-leb (s .«active_len») 256 q)
 
-pub finished-len : (s : Sequencer) (i : ℕ) (e : Event) → i < s .«active_len» → s .«active_len» ≤ 256 → pushedPast (swapRemoved s i) e .«active_len» ≡ s .«active_len» - 1
+finished-len : (s : Sequencer) (i : ℕ) (e : Event) → i < s .«active_len» → s .«active_len» ≤ 256 → pushedPast (swapRemoved s i) e .«active_len» ≡ s .«active_len» - 1
 finished-len s i e p q = pushed-past-len (swapRemoved s i) e ∙ swap-removed-len s i p q
+
+-- the last fills place i of the sounding list and of its index
+abbrev filledByLast : Sequencer → (i : ℕ) → Sequencer
+filledByLast s i =
+    let n = s .«active_len» - 1 in
+    withActive s (set (s .active) i (getD (s .active) n blank)) (set (s .«active_map») i (getD (s .«active_map») n noId)) n
+
+module _ (s : Sequencer) (i : ℕ) (e : Event) (p : i < s .«active_len») (q : s .«active_len» ≤ 256) where
+  moved-past : s .«past_len» < 256 → pushedPast (swapRemoved s i) e ≡ withPast (filledByLast s i) (set (s .past) (s .«past_len») e) (s .«past_len» + 1)
+  unfolding pushedPast swapRemoved
+  moved-past h = rw (lt-ltb i (s .«active_len») p, le-leb (s .«active_len») 256 q, lt-ltb (s .«past_len») 256 h)
+
+  moved-out : 256 ≤ s .«past_len» → pushedPast (swapRemoved s i) e ≡ filledByLast s i
+  unfolding pushedPast swapRemoved
+  moved-out h = rw (lt-ltb i (s .«active_len») p, le-leb (s .«active_len») 256 q, le-ltb (s .«past_len») 256 h)
 
 module _ (limit : Float) (s : Sequencer) (i : ℕ) (r : Sequencer) where
   finished-stop : (ltb i (s .«active_len») && leb (s .«active_len») 256) ≡ false → Finishing limit s i r → s ≡ r
@@ -124,7 +140,7 @@ module _ (limit : Float) (s : Sequencer) (i : ℕ) (r : Sequencer) where
       go zero e g = absurd (omega arith)
       go (suc f) e g = rw add-one (record { fuel = f; enough = omega arith; gives = rw (lt-ltb i (s .«active_len») p, le-leb (s .«active_len») 256 q, h) at g })
 
-  pub finishing-off : i < s .«active_len» → s .«active_len» ≤ 256 → le (getD (s .active) i blank .«end_time») limit ≡ true → Finishing limit s i r
+  finishing-off : i < s .«active_len» → s .«active_len» ≤ 256 → le (getD (s .active) i blank .«end_time») limit ≡ true → Finishing limit s i r
       → Finishing limit (pushedPast (swapRemoved s i) (getD (s .active) i blank)) i r
   unfolding finishes
   finishing-off p q h w = go (w .fuel) (w .enough) (w .gives)
@@ -135,6 +151,15 @@ module _ (limit : Float) (s : Sequencer) (i : ℕ) (r : Sequencer) where
       go : (f : ℕ) → s .«active_len» ≤ i + f → finishes f limit s i ≡ r → Finishing limit (pushedPast (swapRemoved s i) (getD (s .active) i blank)) i r
       go zero e g = absurd (omega arith)
       go (suc f) e g = record { fuel = f; enough = omega (arith, finished-len s i (getD (s .active) i blank) p q); gives = sym (turn f) ∙ g }
+
+  -- where the finished list has room, and where it has none
+  pub finishing-room : i < s .«active_len» → s .«active_len» ≤ 256 → le (getD (s .active) i blank .«end_time») limit ≡ true → s .«past_len» < 256 → Finishing limit s i r
+      → Finishing limit (withPast (filledByLast s i) (set (s .past) (s .«past_len») (getD (s .active) i blank)) (s .«past_len» + 1)) i r
+  finishing-room p q h k w = subst (λ (x : Sequencer). Finishing limit x i r) (moved-past s i (getD (s .active) i blank) p q k) (finishing-off p q h w)
+
+  pub finishing-full : i < s .«active_len» → s .«active_len» ≤ 256 → le (getD (s .active) i blank .«end_time») limit ≡ true → 256 ≤ s .«past_len» → Finishing limit s i r
+      → Finishing limit (filledByLast s i) i r
+  finishing-full p q h k w = subst (λ (x : Sequencer). Finishing limit x i r) (moved-out s i (getD (s .active) i blank) p q k) (finishing-off p q h w)
 
 -- ---- everything waits again
 

@@ -1,7 +1,7 @@
 // Events move between the heap, the sounding list and the finished list. A list that is full, or whose count is corrupt, stays as it is.
 ghost use mathlib.Core.Path.{_≡_};
 ghost use Prim.Native.Nat.{min};
-ghost use Rattle.sequencer.specs.Moves.{pushedReady, poppedReady, pushedActive, swapRemoved, pushedPast, pushedEvent, pushedRelative, activated, readyToActive, activeToPast, releasedPast, advanced, allToReady};
+ghost use Rattle.sequencer.specs.Moves.{pushedReady, poppedReady, pushedActive, pushedEvent, pushedRelative, activated, readyToActive, activeToPast, releasedPast, advanced, allToReady};
 use crate::Sequencer;
 use event::Event;
 use event::ReplayMode;
@@ -12,18 +12,26 @@ use runs::least;
 impl Sequencer {
     // ---- one event
 
+    // As `Ready::push`: the event goes up from the first free place, past every one that it precedes. The loop stands here so that the heap stays in the engine and no array is copied.
     fn push_ready(mut self, event: Event) -> Sequencer
         ensures { λ r. ⌜ r ≡ pushedReady self event ⌝ }
     {
-        let items = self.ready;
-        let heap = Ready {
-            items: items,
-            len: self.ready_len,
-        };
-        let heap = heap.push(event);
-        let items = heap.items;
-        self.ready = items;
-        self.ready_len = heap.len;
+        let n = self.ready_len;
+        if 256 <= n {
+            return self;
+        }
+        let mut i = n;
+        while 0 < i {
+            let p = (i - 1) / 2;
+            let parent = self.ready[p];
+            if !event.precedes(parent) {
+                break;
+            }
+            self.ready[i] = parent;
+            i = p;
+        }
+        self.ready[i] = event;
+        self.ready_len = n + 1;
         self
     }
 
@@ -51,36 +59,6 @@ impl Sequencer {
             self.active[n] = event;
             self.active_map[n] = id;
             self.active_len = n + 1;
-        }
-        self
-    }
-
-    // The last fills place i of the sounding list and of its index.
-    fn swap_remove_active(mut self, i: usize) -> Sequencer
-        ensures { λ r. ⌜ r ≡ swapRemoved self i ⌝ }
-    {
-        let n = self.active_len;
-        if 256 < n {
-            return self;
-        }
-        if n <= i {
-            return self;
-        }
-        let last = self.active[n - 1];
-        self.active[i] = last;
-        let id = self.active_map[n - 1];
-        self.active_map[i] = id;
-        self.active_len = n - 1;
-        self
-    }
-
-    fn push_past(mut self, event: Event) -> Sequencer
-        ensures { λ r. ⌜ r ≡ pushedPast self event ⌝ }
-    {
-        let n = self.past_len;
-        if n < 256 {
-            self.past[n] = event;
-            self.past_len = n + 1;
         }
         self
     }
@@ -147,7 +125,7 @@ impl Sequencer {
         self
     }
 
-    // An event that ends by `limit` is past, and the last fills its place.
+    // An event that ends by `limit` is past: the last fills its place in the sounding list and in its index.
     fn active_to_past(mut self, limit: f64) -> Sequencer
         ensures { λ r. ⌜ r ≡ activeToPast self limit ⌝ }
     {
@@ -158,8 +136,17 @@ impl Sequencer {
             }
             let event = self.active[i];
             if event.end_time <= limit {
-                self = self.swap_remove_active(i);
-                self = self.push_past(event);
+                let n = self.active_len - 1;
+                let last = self.active[n];
+                self.active[i] = last;
+                let id = self.active_map[n];
+                self.active_map[i] = id;
+                self.active_len = n;
+                let k = self.past_len;
+                if k < 256 {
+                    self.past[k] = event;
+                    self.past_len = k + 1;
+                }
             } else {
                 i = i + 1;
             }

@@ -11,7 +11,7 @@ use Rattle.event.specs.Events.{earlier, blank}
 use Rattle.ready.specs.Sift.{sink, child}
 use Rattle.ready.specs.Steps.{child-left, child-first, child-second}
 use Rattle.ready.specs.Waiting.{popped}
-use Rattle.ready.proofs.Rounds.{Sinking, sinking-on, sunk-end, sunk-stop}
+use Rattle.ready.specs.Rounds.{Sinking, sinking-on, sunk-end, sunk-stop}
 use Rattle.ready.proofs.Ready.pop.Statement.{statement}
 use Rattle.ready.proofs.Ready.pop.Tie as tie
 use Rattle.ready.proofs.Ready.pop.Reads as reads

@@ -9,7 +9,7 @@ use Rattle.event.specs.declared.Event.{Event}
 use Rattle.event.specs.Events.{earlier, blank}
 use Rattle.ready.specs.Sift.{rise}
 use Rattle.ready.specs.Waiting.{pushed}
-use Rattle.ready.proofs.Rounds.{Rising, rising-on, risen-root, risen-stop}
+use Rattle.ready.specs.Rounds.{Rising, rising-on, risen-root, risen-stop}
 use Rattle.ready.proofs.Ready.push.Statement.{statement}
 use Rattle.ready.proofs.Ready.push.Tie as tie
 

@@ -2,10 +2,9 @@
 use borrow.Author.Needs.{needs}
 use native.Mathlib.Omega.{arith}
 use Prim.Native.Nat.{_-_}
-use mathlib.Core.Path.{refl, ap, _∙_}
-use Rattle.sequencer.specs.declared.Sequencer.{Sequencer}
+use mathlib.Core.Path.{refl}
 use Rattle.sequencer.specs.Moves.{activeToPast}
-use Rattle.sequencer.specs.Turns.{Finishing, finished-len, finished-end, finished-beyond, finishing-on, finishing-off}
+use Rattle.sequencer.specs.Turns.{Finishing, finished-end, finished-beyond, finishing-on, finishing-room, finishing-full}
 use Rattle.sequencer.proofs.Sequencer.active_to_past.Statement.{statement}
 use Rattle.sequencer.proofs.Sequencer.active_to_past.Tie as tie
 
@@ -19,19 +18,14 @@ loop-holds : tie.Need-loop-holds Inv-loop μ-loop
 unfolding activeToPast
 loop-holds c = record { fuel = c .args .t1 .«active_len»; enough = omega arith; gives = refl }
 
-loop-less : tie.Need-loop-less Inv-loop μ-loop
-loop-less c =
-    let made = rw (c .before .swap-remove-active .ensures) at (c .push-past .ensures) in
-    let e = ap (λ (x : Sequencer). x .«active_len») made ∙ finished-len (c .before .before .before .before .before .before .before .loop .self) (c .before .before .before .before .before .before .before .loop .i) _ (c .before .before .before .before .before .before .loop-test .taken) (c .before .before .before .before .before .if1 .left) in
-    omega (arith, c .before .before .before .before .before .before .loop-test .taken)
-
 loop-again : tie.Need-loop-again Inv-loop μ-loop
-loop-again c =
-    rw (c .push-past .ensures, c .before .swap-remove-active .ensures)
-    (finishing-off (c .before .before .before .before .before .before .before .before .args .limit) (c .before .before .before .before .before .before .before .loop .self) (c .before .before .before .before .before .before .before .loop .i) _ (c .before .before .before .before .before .before .loop-test .taken) (c .before .before .before .before .before .if1 .left) (c .before .before .if2 .taken) (c .before .before .before .before .before .before .before .loop .inv))
+loop-again c = finishing-room _ _ _ _ (c .before .before .before .before .before .before .before .loop-test .taken) (c .before .before .before .before .before .before .if1 .left) (c .before .before .before .if2 .taken) (c .if3 .taken) (c .before .before .before .before .before .before .before .before .loop .inv)
 
 loop-again-2 : tie.Need-loop-again-2 Inv-loop μ-loop
-loop-again-2 c = finishing-on _ _ _ _ (c .before .before .before .before .loop-test .taken) (c .before .before .before .if1 .left) (c .if2 .left) (c .before .before .before .before .before .loop .inv)
+loop-again-2 c = finishing-full _ _ _ _ (c .before .before .before .before .before .before .before .loop-test .taken) (c .before .before .before .before .before .before .if1 .left) (c .before .before .before .if2 .taken) (c .if3 .left) (c .before .before .before .before .before .before .before .before .loop .inv)
+
+loop-again-3 : tie.Need-loop-again-3 Inv-loop μ-loop
+loop-again-3 c = finishing-on _ _ _ _ (c .before .before .before .before .loop-test .taken) (c .before .before .before .if1 .left) (c .if2 .left) (c .before .before .before .before .before .loop .inv)
 
 returns : tie.Need-returns Inv-loop μ-loop
 returns c = finished-end _ _ _ _ (c .loop-test .left) (c .before .loop .inv)
@@ -40,4 +34,9 @@ returns-2 : tie.Need-returns-2 Inv-loop μ-loop
 returns-2 c = finished-beyond _ _ _ _ (c .if1 .taken) (c .before .before .loop .inv)
 
 pub active-to-past-spec : {M : Type 1} → statement M
-active-to-past-spec = tie.close (tie.spec Inv-loop μ-loop loop-holds (λ c. search needs) (λ c. search needs) (λ c κs. search needs) (λ c κs. search needs) loop-less loop-again (λ c. search needs) (λ c. search needs) loop-again-2 returns returns-2)
+active-to-past-spec =
+    tie.close
+    (tie.spec Inv-loop μ-loop loop-holds (λ c. search needs) (λ c. search needs) (λ c. search needs) (λ c. search needs) (λ c. search needs)
+    (λ c. search needs) (λ c. search needs) (λ c. search needs) (λ c. search needs) (λ c. search needs) (λ c. search needs)
+    (λ c. search needs) (λ c. search needs) (λ c. search needs) (λ c. search needs) loop-again (λ c. search needs) loop-again-2
+    (λ c. search needs) (λ c. search needs) loop-again-3 returns returns-2)

@@ -1,4 +1,4 @@
--- The loops of push and pop: what is left to do gives the definition's result r, with some fuel that is enough. Assumes nothing.
+-- The loops of push and pop, here and in the engine: what is left to do gives the result r of the definition, with some fuel that is enough.
 use mathlib.Core.Bool.{Bool, true, false}
 use mathlib.Core.Path.{_≡_, sym, _∙_}
 use mathlib.Core.List.{List}

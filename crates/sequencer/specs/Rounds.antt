@@ -1,0 +1,49 @@
+-- The loops that sift an event in the engine's own heap: the engine is s with other events at the heap's places, and what is left to do gives the definition's heap.
+use mathlib.Core.Bool.{Bool, true, false}
+use mathlib.Core.List.{List}
+use mathlib.Core.Path.{_≡_, refl, ap, _∙_}
+use Prim.Native.Nat.{ℕ, _+_, _≤_, _<_}
+use native.Mathlib.Omega.{arith}
+use borrow.Author.Tests.{lt-ltb}
+use lib.ListN.{getD, set}
+use Rattle.event.specs.declared.Event.{Event}
+use Rattle.event.specs.Events.{blank, earlier}
+use Rattle.ready.specs.Sift.{rise, parent}
+use Rattle.ready.specs.Rounds.{Rising, rising-on, risen-root, risen-stop}
+use Rattle.ready.specs.Waiting.{pushed}
+use Rattle.sequencer.specs.declared.Sequencer.{Sequencer}
+use Rattle.sequencer.specs.Parts.{withReady}
+use Rattle.sequencer.specs.Moves.{pushedReady}
+
+-- the heap of s with e, which rises from the first free place
+abbrev risen : Sequencer → Event → List Event
+risen s e = rise earlier blank (s .«ready_len») (s .ready) (s .«ready_len») e
+
+-- e rises in s: place i is free, and t is the engine so far
+pub record RisingIn (s : Sequencer) (e : Event) (i : ℕ) (t : Sequencer) : Type 0 where
+  pub same : t ≡ withReady s (t .ready) (s .«ready_len»)
+  pub inside : i ≤ s .«ready_len»
+  pub rising : Rising earlier blank (t .ready) i e (risen s e)
+
+module _ {s : Sequencer} {e : Event} where
+  pub rising-in : RisingIn s e (s .«ready_len») s
+  rising-in = record { same = refl; inside = omega arith; rising = record { fuel = s .«ready_len»; enough = omega arith; gives = refl } }
+
+  module _ {i : ℕ} {t : Sequencer} where
+    pub rising-in-on : 0 < i → earlier e (getD (t .ready) (parent i) blank) ≡ true → RisingIn s e i t
+        → RisingIn s e (parent i) (withReady t (set (t .ready) i (getD (t .ready) (parent i) blank)) (t .«ready_len»))
+    rising-in-on p h w = record {
+      same = ap (λ (x : Sequencer). withReady x (set (t .ready) i (getD (t .ready) (parent i) blank)) (x .«ready_len»)) (w .same);
+      inside = omega (arith, w .inside);
+      rising = rising-on earlier blank _ _ _ _ p h (w .rising);
+    }
+
+    filled : s .«ready_len» < 256 → set (t .ready) i e ≡ risen s e → RisingIn s e i t → withReady t (set (t .ready) i e) (s .«ready_len» + 1) ≡ pushedReady s e
+    unfolding pushedReady pushed
+    filled l g w = rw (lt-ltb (s .«ready_len») 256 l) (ap (λ (x : Sequencer). withReady x (set (t .ready) i e) (s .«ready_len» + 1)) (w .same) ∙ ap (λ (xs : List Event). withReady s xs (s .«ready_len» + 1)) g)
+
+    pub risen-in-root : s .«ready_len» < 256 → i ≤ 0 → RisingIn s e i t → withReady t (set (t .ready) i e) (s .«ready_len» + 1) ≡ pushedReady s e
+    risen-in-root l h w = filled l (risen-root earlier blank _ _ _ _ h (w .rising)) w
+
+    pub risen-in-stop : s .«ready_len» < 256 → earlier e (getD (t .ready) (parent i) blank) ≡ false → RisingIn s e i t → withReady t (set (t .ready) i e) (s .«ready_len» + 1) ≡ pushedReady s e
+    risen-in-stop l h w = filled l (risen-stop earlier blank _ _ _ _ h (w .rising)) w
