@@ -2,18 +2,20 @@
 use mathlib.Core.Bool.{Bool, true, false}
 use mathlib.Core.List.{List}
 use mathlib.Core.Path.{_≡_, refl, ap, _∙_}
-use Prim.Native.Nat.{ℕ, _+_, _≤_, _<_}
+use Prim.Native.Nat.{ℕ, _+_, _-_, _*_, _≤_, _<_}
 use native.Mathlib.Omega.{arith}
-use borrow.Author.Tests.{lt-ltb}
+use borrow.Author.Tests.{lt-ltb, le-leb}
 use lib.ListN.{getD, set}
 use Rattle.event.specs.declared.Event.{Event}
 use Rattle.event.specs.Events.{blank, earlier}
-use Rattle.ready.specs.Sift.{rise, parent}
-use Rattle.ready.specs.Rounds.{Rising, rising-on, risen-root, risen-stop}
-use Rattle.ready.specs.Waiting.{pushed}
+use Rattle.ready.specs.Sift.{rise, sink, child, parent}
+use Rattle.ready.specs.Rounds.{Rising, rising-on, risen-root, risen-stop, Sinking, sinking-on, sunk-end, sunk-stop}
+use Rattle.ready.specs.Waiting.{pushed, popped}
 use Rattle.sequencer.specs.declared.Sequencer.{Sequencer}
 use Rattle.sequencer.specs.Parts.{withReady}
-use Rattle.sequencer.specs.Moves.{pushedReady}
+use Rattle.sequencer.specs.Moves.{pushedReady, poppedReady}
+
+-- ---- an event rises
 
 -- the heap of s with e, which rises from the first free place
 abbrev risen : Sequencer → Event → List Event
@@ -47,3 +49,49 @@ module _ {s : Sequencer} {e : Event} where
 
     pub risen-in-stop : s .«ready_len» < 256 → earlier e (getD (t .ready) (parent i) blank) ≡ false → RisingIn s e i t → withReady t (set (t .ready) i e) (s .«ready_len» + 1) ≡ pushedReady s e
     risen-in-stop l h w = filled l (risen-stop earlier blank _ _ _ _ h (w .rising)) w
+
+-- ---- the last sinks
+
+-- the place of the last event
+abbrev pub lastPlace : Sequencer → ℕ
+lastPlace s = s .«ready_len» - 1
+
+-- the event of s that sinks, and the heap of s once it has sunk from the first place
+abbrev pub lastOf : Sequencer → Event
+lastOf s = getD (s .ready) (lastPlace s) blank
+
+abbrev sunk : Sequencer → List Event
+sunk s = sink earlier blank (lastPlace s) (s .ready) (lastPlace s) 0 (lastOf s)
+
+-- the last sinks in s: place i is free, and t is the engine so far
+pub record SinkingIn (s : Sequencer) (i : ℕ) (t : Sequencer) : Type 0 where
+  pub same : t ≡ withReady s (t .ready) (s .«ready_len»)
+  pub inside : i ≤ lastPlace s
+  pub sinking : Sinking earlier blank (t .ready) (lastPlace s) i (lastOf s) (sunk s)
+
+module _ {s : Sequencer} where
+  pub sinking-in : SinkingIn s 0 s
+  sinking-in = record { same = refl; inside = omega arith; sinking = record { fuel = lastPlace s; enough = omega arith; gives = refl } }
+
+  module _ {i : ℕ} {t : Sequencer} where
+    -- the loop has found the child j and its event e
+    pub sinking-in-on : {j : ℕ} {e : Event} → 2 * i + 1 < lastPlace s → child earlier blank (t .ready) (lastPlace s) i ≡ j → j ≤ lastPlace s → getD (t .ready) j blank ≡ e → earlier e (lastOf s) ≡ true
+        → SinkingIn s i t → SinkingIn s j (withReady t (set (t .ready) i e) (t .«ready_len»))
+    sinking-in-on {j} {e} p c b g h w = record {
+      same = ap (λ (x : Sequencer). withReady x (set (t .ready) i e) (x .«ready_len»)) (w .same);
+      inside = b;
+      sinking = sinking-on earlier blank _ _ _ _ _ _ _ p c g h (w .sinking);
+    }
+
+    left : 0 < s .«ready_len» → s .«ready_len» ≤ 256 → set (t .ready) i (lastOf s) ≡ sunk s → SinkingIn s i t → withReady t (set (t .ready) i (lastOf s)) (lastPlace s) ≡ poppedReady s
+    unfolding poppedReady popped
+    left p q g w =
+        rw (lt-ltb 0 (s .«ready_len») p, le-leb (s .«ready_len») 256 q)
+        (ap (λ (x : Sequencer). withReady x (set (t .ready) i (lastOf s)) (lastPlace s)) (w .same) ∙ ap (λ (xs : List Event). withReady s xs (lastPlace s)) g)
+
+    pub sunk-in-end : 0 < s .«ready_len» → s .«ready_len» ≤ 256 → lastPlace s ≤ 2 * i + 1 → SinkingIn s i t → withReady t (set (t .ready) i (lastOf s)) (lastPlace s) ≡ poppedReady s
+    sunk-in-end p q h w = left p q (sunk-end earlier blank _ _ _ _ _ h (w .sinking)) w
+
+    pub sunk-in-stop : {j : ℕ} {e : Event} → 0 < s .«ready_len» → s .«ready_len» ≤ 256 → child earlier blank (t .ready) (lastPlace s) i ≡ j → getD (t .ready) j blank ≡ e → earlier e (lastOf s) ≡ false
+        → SinkingIn s i t → withReady t (set (t .ready) i (lastOf s)) (lastPlace s) ≡ poppedReady s
+    sunk-in-stop p q c g h w = left p q (sunk-stop earlier blank _ _ _ _ _ _ _ c g h (w .sinking)) w

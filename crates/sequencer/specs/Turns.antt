@@ -1,7 +1,7 @@
 -- One round of each loop that moves events, and the rounds that are the last.
 use mathlib.Core.Bool.{Bool, true, false, _&&_, cond, and-false}
 use mathlib.Core.List.{List}
-use mathlib.Core.Path.{_≡_, refl, sym, ap, _∙_, subst}
+use mathlib.Core.Path.{_≡_, refl, sym, ap, ap₂, _∙_, subst}
 use Prim.Native.Nat.{ℕ, zero, suc, _+_, _-_, _≤_, _<_}
 use native.Mathlib.Omega.{arith}
 use native.Mathlib.Numerals.{add-one}
@@ -10,12 +10,17 @@ use lib.Dec.{ltb, leb}
 use lib.Ieee.{Float, lt, le}
 use lib.ListN.{getD, set}
 use Rattle.event.specs.declared.Event.{Event}
+use Rattle.event.specs.declared.EventId.{EventId}
+use Rattle.event.specs.declared.Edit.{Edit}
 use Rattle.event.specs.Events.{blank, editedBy}
 use Rattle.ready.specs.Waiting.{popped}
+use Rattle.lists.specs.Search.{seek}
 use Rattle.lists.specs.Index.{noId}
+use Rattle.lists.specs.declared.EditMap.{EditMap}
+use Rattle.lists.specs.declared.Found.the-variants.{Nothing}
 use Rattle.lists.specs.declared.FoundEdit.{FoundEdit}
 use Rattle.lists.specs.declared.FoundEdit.the-variants.{Stored, Missing}
-use Rattle.lists.specs.Edits.{foundEdit, removed}
+use Rattle.lists.specs.Edits.{noEdit, isEdit, placed, foundAt, foundEdit, removed}
 use Rattle.sequencer.specs.declared.Sequencer.{Sequencer}
 use Rattle.sequencer.specs.Parts.{withActive, withPast, withEdits}
 use Rattle.sequencer.specs.Moves.{pushedReady, poppedReady, pushedActive, swapRemoved, pushedPast, activated, activatedBy, activates, finishes, heldAt, toReady}
@@ -83,6 +88,62 @@ module _ (s r : Sequencer) where
         enough = omega (arith, activated-len s (getD (s .ready) 0 blank) p q);
         gives = rw (lt-ltb 0 (s .«ready_len») p, le-leb (s .«ready_len») 256 q, h) at g;
       }
+
+-- the heap's first f is to leave s: e is f with its edit, and t is s without that edit
+pub record Taking (s : Sequencer) (f : Event) (t : Sequencer) (e : Event) : Type 0 where
+  pub same : t ≡ withEdits s (t .«edit_map»)
+  pub number : e .id ≡ f .id
+  pub gives : pushedActive (poppedReady t) e ≡ activated s f
+
+no-edit : (a : EditMap) (k : EventId) → a .len ≤ 0 → foundEdit a k ≡ Missing
+unfolding foundEdit placed seek
+no-edit a k h =
+    let z : a .len ≡ 0 = omega arith in
+    ap (λ (n : ℕ). foundAt a (cond (leb n 256) (seek noEdit (isEdit k) n (a .items) 0) Nothing)) z
+
+module _ {s : Sequencer} {f : Event} {t : Sequencer} {e : Event} where
+  pub taking-missing : foundEdit (s .«edit_map») (f .id) ≡ Missing → t ≡ s → e ≡ f → Taking s f t e
+  unfolding activated activatedBy
+  taking-missing h p q = record {
+    same = p ∙ ap (λ (x : Sequencer). withEdits s (x .«edit_map»)) (sym p);
+    number = ap (λ (x : Event). x .id) q;
+    gives = ap₂ (λ (x : Sequencer) (y : Event). pushedActive (poppedReady x) y) p q ∙ sym (ap (activatedBy s f) h);
+  }
+
+  pub taking-none : s .«edit_map» .len ≤ 0 → t ≡ s → e ≡ f → Taking s f t e
+  taking-none h = taking-missing (no-edit (s .«edit_map») (f .id) h)
+
+  pub taking-stored : {d : Edit} → foundEdit (s .«edit_map») (f .id) ≡ Stored d → t ≡ withEdits s (removed (s .«edit_map») (f .id)) → e ≡ editedBy d f → Taking s f t e
+  unfolding activated activatedBy
+  taking-stored h p q = record {
+    same = p ∙ ap (λ (x : Sequencer). withEdits s (x .«edit_map»)) (sym p);
+    number = ap (λ (x : Event). x .id) q;
+    gives = ap₂ (λ (x : Sequencer) (y : Event). pushedActive (poppedReady x) y) p q ∙ sym (ap (activatedBy s f) h);
+  }
+
+  pub taking-len : Taking s f t e → t .«ready_len» ≡ s .«ready_len»
+  taking-len w = ap (λ (x : Sequencer). x .«ready_len») (w .same)
+
+-- the engine x that the event has left in its heap, and the sounding list with it
+module _ (s r : Sequencer) {t x : Sequencer} {e : Event} (p : 0 < s .«ready_len») (q : s .«ready_len» ≤ 256) (h : lt (getD (s .ready) 0 blank .«start_time») (s .«active_threshold») ≡ true)
+    (k : Taking s (getD (s .ready) 0 blank) t e) (g : x ≡ poppedReady t) (w : Activating s r) where
+  started : pushedActive x e ≡ activated s (getD (s .ready) 0 blank)
+  started = ap (λ (y : Sequencer). pushedActive y e) g ∙ k .gives
+
+  pub activating-room : {id : EventId} → id ≡ getD (s .ready) 0 blank .id → x .«active_len» < 256
+      → Activating (withActive x (set (x .active) (x .«active_len») e) (set (x .«active_map») (x .«active_len») id) (x .«active_len» + 1)) r
+  unfolding pushedActive
+  activating-room {id} i l = subst (λ (y : Sequencer). Activating y r) (sym (made ∙ started)) (activating-on s r p q h w)
+    where
+      made : withActive x (set (x .active) (x .«active_len») e) (set (x .«active_map») (x .«active_len») id) (x .«active_len» + 1) ≡ pushedActive x e
+      made = rw (lt-ltb (x .«active_len») 256 l) (ap (λ (y : EventId). withActive x (set (x .active) (x .«active_len») e) (set (x .«active_map») (x .«active_len») y) (x .«active_len» + 1)) (i ∙ sym (k .number)))
+
+  pub activating-full : 256 ≤ x .«active_len» → Activating x r
+  unfolding pushedActive
+  activating-full l = subst (λ (y : Sequencer). Activating y r) (sym (made ∙ started)) (activating-on s r p q h w)
+    where
+      made : x ≡ pushedActive x e
+      made = rw (le-ltb (x .«active_len») 256 l)
 
 -- ---- events that end
 

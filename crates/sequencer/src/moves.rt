@@ -1,12 +1,11 @@
 // Events move between the heap, the sounding list and the finished list. A list that is full, or whose count is corrupt, stays as it is.
 ghost use mathlib.Core.Path.{_≡_};
 ghost use Prim.Native.Nat.{min};
-ghost use Rattle.sequencer.specs.Moves.{pushedReady, poppedReady, pushedActive, pushedEvent, pushedRelative, activated, readyToActive, activeToPast, releasedPast, advanced, allToReady};
+ghost use Rattle.sequencer.specs.Moves.{pushedReady, pushedActive, pushedEvent, pushedRelative, readyToActive, activeToPast, releasedPast, advanced, allToReady};
 use crate::Sequencer;
 use event::Event;
 use event::ReplayMode;
 use lists::FoundEdit;
-use ready::Ready;
 use runs::least;
 
 impl Sequencer {
@@ -32,21 +31,6 @@ impl Sequencer {
         }
         self.ready[i] = event;
         self.ready_len = n + 1;
-        self
-    }
-
-    fn pop_ready(mut self) -> Sequencer
-        ensures { λ r. ⌜ r ≡ poppedReady self ⌝ }
-    {
-        let items = self.ready;
-        let heap = Ready {
-            items: items,
-            len: self.ready_len,
-        };
-        let heap = heap.pop();
-        let items = heap.items;
-        self.ready = items;
-        self.ready_len = heap.len;
         self
     }
 
@@ -86,29 +70,7 @@ impl Sequencer {
 
     // ---- the beginning of a tick or a block
 
-    // The first of the heap becomes active, with its edit.
-    fn activate(mut self, event: Event) -> Sequencer
-        ensures { λ r. ⌜ r ≡ activated self event ⌝ }
-    {
-        let edits = self.edit_map;
-        let id = event.id;
-        let found = edits.find(id);
-        match found {
-            FoundEdit::Stored(edit) => {
-                let event = event.edited(edit);
-                let edits = edits.remove(id);
-                self.edit_map = edits;
-                let s = self.pop_ready();
-                s.push_active(event)
-            }
-            FoundEdit::Missing => {
-                let s = self.pop_ready();
-                s.push_active(event)
-            }
-        }
-    }
-
-    // While the heap's first starts before the threshold it becomes active.
+    // While the heap's first starts before the threshold it becomes active, with its edit. It leaves the heap as in `Ready::pop`: the last goes down from its place, past every child that precedes it.
     fn ready_to_active(mut self) -> Sequencer
         ensures { λ r. ⌜ r ≡ readyToActive self ⌝ }
     {
@@ -120,7 +82,49 @@ impl Sequencer {
             if !(first.start_time < self.active_threshold) {
                 break;
             }
-            self = self.activate(first);
+            let id = first.id;
+            let mut event = first;
+            if 0 < self.edit_map.len {
+                let edits = self.edit_map;
+                let found = edits.find(id);
+                match found {
+                    FoundEdit::Stored(edit) => {
+                        event = first.edited(edit);
+                        let edits = edits.remove(id);
+                        self.edit_map = edits;
+                    }
+                    FoundEdit::Missing => {}
+                }
+            }
+            let m = self.ready_len - 1;
+            let last = self.ready[m];
+            let mut i = 0;
+            while 2 * i + 1 < m {
+                let l = 2 * i + 1;
+                let r = 2 * i + 2;
+                let mut c = l;
+                if r < m {
+                    let left = self.ready[l];
+                    let right = self.ready[r];
+                    if right.precedes(left) {
+                        c = r;
+                    }
+                }
+                let child = self.ready[c];
+                if !child.precedes(last) {
+                    break;
+                }
+                self.ready[i] = child;
+                i = c;
+            }
+            self.ready[i] = last;
+            self.ready_len = m;
+            let n = self.active_len;
+            if n < 256 {
+                self.active[n] = event;
+                self.active_map[n] = id;
+                self.active_len = n + 1;
+            }
         }
         self
     }
