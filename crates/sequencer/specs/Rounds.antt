@@ -4,7 +4,7 @@ use mathlib.Core.List.{List}
 use mathlib.Core.Path.{_≡_, refl, ap, _∙_}
 use Prim.Native.Nat.{ℕ, _+_, _-_, _*_, _≤_, _<_}
 use native.Mathlib.Omega.{arith}
-use borrow.Author.Tests.{lt-ltb, le-leb}
+use borrow.Author.Tests.{lt-ltb, le-ltb, le-leb}
 use lib.ListN.{getD, set}
 use Rattle.event.specs.declared.Event.{Event}
 use Rattle.event.specs.Events.{blank, earlier}
@@ -20,6 +20,11 @@ use Rattle.sequencer.specs.Moves.{pushedReady, poppedReady}
 -- the heap of s with e, which rises from the first free place
 abbrev risen : Sequencer → Event → List Event
 risen s e = rise earlier blank (s .«ready_len») (s .ready) (s .«ready_len») e
+
+-- a full heap stays as it is
+pub full : (s : Sequencer) (e : Event) → 256 ≤ s .«ready_len» → s ≡ pushedReady s e
+unfolding pushedReady pushed
+full s e h = rw (le-ltb (s .«ready_len») 256 h)
 
 -- e rises in s: place i is free, and t is the engine so far
 pub record RisingIn (s : Sequencer) (e : Event) (i : ℕ) (t : Sequencer) : Type 0 where

@@ -189,7 +189,7 @@ impl Sequencer {
 
     // ---- everything waits again
 
-    // The finished, then the sounding go into the heap.
+    // The finished, then the sounding go into the heap, each as in `push_ready`.
     pub(crate) fn all_to_ready(mut self) -> Sequencer
         ensures { λ r. ⌜ r ≡ allToReady self ⌝ }
     {
@@ -203,8 +203,22 @@ impl Sequencer {
             } else {
                 event = self.active[i - past];
             }
-            self = self.push_ready(event);
             i = i + 1;
+            let m = self.ready_len;
+            if m < 256 {
+                let mut j = m;
+                while 0 < j {
+                    let p = (j - 1) / 2;
+                    let parent = self.ready[p];
+                    if !event.precedes(parent) {
+                        break;
+                    }
+                    self.ready[j] = parent;
+                    j = p;
+                }
+                self.ready[j] = event;
+                self.ready_len = m + 1;
+            }
         }
         self.past_len = 0;
         self.active_len = 0;

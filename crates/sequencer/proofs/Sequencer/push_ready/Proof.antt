@@ -1,11 +1,9 @@
 -- `sequencer::Sequencer::push_ready` meets its contract. Assumes nothing.
 use borrow.Author.Needs.{needs}
-use borrow.Author.Tests.{le-ltb, not-true, not-false}
+use borrow.Author.Tests.{not-true, not-false}
 use mathlib.Core.Logic.{⊎-elim}
 use mathlib.Core.Path.{sym, _∙_}
-use Rattle.ready.specs.Waiting.{pushed}
-use Rattle.sequencer.specs.Moves.{pushedReady}
-use Rattle.sequencer.specs.Rounds.{RisingIn, rising-in, rising-in-on, risen-in-root, risen-in-stop}
+use Rattle.sequencer.specs.Rounds.{RisingIn, rising-in, rising-in-on, risen-in-root, risen-in-stop, full}
 use Rattle.sequencer.proofs.Sequencer.push_ready.Statement.{statement}
 use Rattle.sequencer.proofs.Sequencer.push_ready.Tie as tie
 
@@ -14,10 +12,6 @@ Inv-loop event self₀ n i₀ self i = RisingIn self₀ event i self
 
 abbrev μ-loop : tie.MeasureT-loop
 μ-loop event self₀ n i₀ self i = i
-
-returns : tie.Need-returns Inv-loop μ-loop
-unfolding pushedReady pushed
-returns c = rw (le-ltb _ _ (c .if1 .taken))
 
 loop-again : tie.Need-loop-again Inv-loop μ-loop
 loop-again c =
@@ -33,5 +27,5 @@ returns-2 c =
 pub push-ready-spec : {M : Type 1} → statement M
 push-ready-spec =
     tie.close
-    (tie.spec Inv-loop μ-loop returns (λ c. rising-in) (λ c. search needs) (λ c. search needs) (λ c. search needs) (λ c κs. search needs) (λ c. search needs) (λ c. search needs) (λ c. search needs)
+    (tie.spec Inv-loop μ-loop (λ c. full _ _ (c .if1 .taken)) (λ c. rising-in) (λ c. search needs) (λ c. search needs) (λ c. search needs) (λ c κs. search needs) (λ c. search needs) (λ c. search needs) (λ c. search needs)
     loop-again (λ c. search needs) (λ c. search needs) (λ c. search needs) returns-2)
