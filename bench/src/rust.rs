@@ -83,10 +83,11 @@ struct Event {
     source: (u32, u32, u32),
     value: f32,
     place: u32,
+    gain: f32,
     id: u64,
 }
 
-const _: () = assert!(size_of::<Event>() == 64);
+const _: () = assert!(size_of::<Event>() == 72);
 
 impl Ord for Event {
     fn cmp(&self, other: &Self) -> Ordering {
@@ -127,6 +128,7 @@ fn event(s: u32, i: u64, equal: bool) -> Event {
         source: (2, 7, 9),
         value: 0.0,
         place: 3,
+        gain: 1.0,
         id,
     }
 }

@@ -20,7 +20,7 @@ pub struct Tally {
     pub tapes: u64,
     pub records: u64,
     /// Records by refusal; at place 0 those accepted.
-    pub refusals: [u64; 16],
+    pub refusals: [u64; 19],
 }
 
 /// Play a tape on both; the tally, or the first difference. A panic is a difference.

@@ -42,6 +42,15 @@ pub struct Push {
     pub fade_out: f64,
     pub curve: Curve,
     pub source: Source,
+    /// The gain as the record has it: kinds 01 to 03 have none.
+    pub written_gain: Option<f32>,
+}
+
+impl Push {
+    /// Document 02, Paper 5: records 01 to 03 mean gain 1.0.
+    pub fn gain(&self) -> f32 {
+        self.written_gain.unwrap_or(1.0)
+    }
 }
 
 #[derive(Clone, Copy, PartialEq, Debug)]
@@ -82,9 +91,14 @@ impl Call {
     pub fn kind(&self) -> u8 {
         match self {
             Call::Create { .. } => 0x00,
-            Call::Push(PushKind::Absolute, ..) => 0x01,
-            Call::Push(PushKind::Relative, ..) => 0x02,
-            Call::Push(PushKind::Duration, ..) => 0x03,
+            Call::Push(kind, push, _) => match (kind, push.written_gain) {
+                (PushKind::Absolute, None) => 0x01,
+                (PushKind::Relative, None) => 0x02,
+                (PushKind::Duration, None) => 0x03,
+                (PushKind::Absolute, Some(_)) => 0x0A,
+                (PushKind::Relative, Some(_)) => 0x0B,
+                (PushKind::Duration, Some(_)) => 0x0C,
+            },
             Call::Edit(Timing::Absolute, _) => 0x04,
             Call::Edit(Timing::Relative, _) => 0x05,
             Call::Tick => 0x06,

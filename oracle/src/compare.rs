@@ -2,6 +2,7 @@
 
 use crate::digest;
 use crate::generate::{PROFILES, Profile, generate, named};
+use crate::judge::{Judge, judge};
 use crate::shrink::shrink;
 use crate::tape;
 use crate::text::to_text;
@@ -52,24 +53,45 @@ impl Options {
 }
 
 /// Tapes and records that were compared, and how many tapes differ.
-#[derive(Clone, Debug, Default, PartialEq, Eq)]
-pub struct Compared {
+#[derive(Clone, Copy, Debug, Default, PartialEq, Eq)]
+pub struct Count {
     pub tapes: u64,
     pub records: u64,
     pub differences: u64,
+}
+
+impl Count {
+    fn print(self, name: &str) {
+        let (tapes, records, differences) = (self.tapes, self.records, self.differences);
+        println!("{name}: {tapes} tapes, {records} records, {differences} differences");
+    }
+}
+
+#[derive(Clone, Debug, Default, PartialEq, Eq)]
+pub struct Compared {
+    /// The tapes that the original measures, and those that the second ledger does.
+    pub original: Count,
+    pub ledger: Count,
     /// The first difference with its smallest tape as text.
     pub report: Option<String>,
 }
 
 impl Compared {
-    /// Print the report and the counts; whether nothing differs.
+    /// Print the report and the counts, apart and as a sum; whether nothing differs.
     pub fn conclude(self, name: &str) -> ExitCode {
         if let Some(report) = self.report {
             eprintln!("{report}");
         }
-        let (tapes, records, differences) = (self.tapes, self.records, self.differences);
-        println!("{name}: {tapes} tapes, {records} records, {differences} differences");
-        if differences == 0 && tapes > 0 {
+        let (original, ledger) = (self.original, self.ledger);
+        let all = Count {
+            tapes: original.tapes + ledger.tapes,
+            records: original.records + ledger.records,
+            differences: original.differences + ledger.differences,
+        };
+        original.print(&format!("{name}: all gains 1.0, by the original"));
+        ledger.print(&format!("{name}: other gains, by the second ledger"));
+        all.print(name);
+        if all.differences == 0 && all.tapes > 0 {
             ExitCode::SUCCESS
         } else {
             ExitCode::FAILURE
@@ -83,10 +105,14 @@ pub fn compare(options: &Options, mut differs: impl FnMut(&[u8]) -> Option<Strin
     for profile in &options.profiles {
         for seed in options.seed..options.seed + options.tapes {
             let tape = generate(profile, seed);
-            compared.tapes += 1;
-            compared.records += count(profile, &tape);
+            let count = match judge(profile.format, &tape) {
+                Judge::Original => &mut compared.original,
+                Judge::Ledger => &mut compared.ledger,
+            };
+            count.tapes += 1;
+            count.records += records(profile, &tape);
             if let Some(what) = differs(&tape) {
-                compared.differences += 1;
+                count.differences += 1;
                 if compared.report.is_none() {
                     compared.report = Some(report(profile, seed, &tape, &what, &mut differs));
                 }
@@ -97,7 +123,7 @@ pub fn compare(options: &Options, mut differs: impl FnMut(&[u8]) -> Option<Strin
 }
 
 /// The records of a tape, the one that stops it included.
-fn count(profile: &Profile, tape: &[u8]) -> u64 {
+fn records(profile: &Profile, tape: &[u8]) -> u64 {
     let (calls, stop) = tape::records(profile.format, tape);
     calls.len() as u64 + u64::from(stop.is_some())
 }

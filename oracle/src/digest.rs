@@ -89,7 +89,7 @@ fn numbers_by_place(index: &[(u64, usize)]) -> Vec<u64> {
     numbers
 }
 
-/// Number, times, fades, curve, source and its place.
+/// Number, times, fades, gain, curve, source and its place.
 fn event_words(event: &EventState) -> Vec<u64> {
     let curve = match event.curve {
         Curve::Power => 0,
@@ -103,7 +103,7 @@ fn event_words(event: &EventState) -> Vec<u64> {
     let times = [event.start, event.end, event.fade_in, event.fade_out];
     let mut words = vec![event.number];
     words.extend(times);
-    words.extend([curve, source]);
+    words.extend([u64::from(event.gain), curve, source]);
     words.extend([word, other, event.value, event.place].map(u64::from));
     words
 }

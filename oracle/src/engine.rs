@@ -87,7 +87,7 @@ pub fn send_push(sequencer: &mut Sequencer, kind: PushKind, push: &Push, number:
         Curve::Power => Fade::Power,
         Curve::Smooth => Fade::Smooth,
     };
-    let unit = unit(push.source, sequencer.outputs());
+    let unit = unit(push.source, push.gain(), sequencer.outputs());
     let Push {
         start,
         end,

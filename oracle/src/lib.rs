@@ -8,6 +8,7 @@ pub mod digest;
 pub mod engine;
 pub mod exhaustive;
 pub mod generate;
+pub mod judge;
 pub mod ledger;
 pub mod listing;
 pub mod lodge;

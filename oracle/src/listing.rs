@@ -224,12 +224,13 @@ fn event(out: &mut impl Write, name: &str, event: &EventState) -> io::Result<()>
     };
     write!(
         out,
-        "    {name} {} start {:?} end {:?} fade-in {:?} fade-out {:?} {curve} ",
+        "    {name} {} start {:?} end {:?} fade-in {:?} fade-out {:?} gain {:?} {curve} ",
         event.number,
         float(event.start),
         float(event.end),
         float(event.fade_in),
         float(event.fade_out),
+        f32::from_bits(event.gain),
     )?;
     match event.source {
         Source::Held { level } => writeln!(out, "held {level:?}"),

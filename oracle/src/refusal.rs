@@ -1,4 +1,4 @@
-//! Document 01's refusals in their order, as they stand in front of the original.
+//! Document 01's refusals in their order, 18 of document 02's Paper 5 among them, as they stand in front of the original.
 
 use crate::call::{Edit, Push, PushKind, Source};
 use crate::player::{BLOCK, MAX_HELD};
@@ -40,7 +40,7 @@ fn source_is_finite(source: Source) -> bool {
     }
 }
 
-/// Refusals 3 to 7. `next` is 0 after number 2^64 - 1 has been given.
+/// Refusals 3 to 7, with 18 directly after 5. `next` is 0 after number 2^64 - 1 has been given.
 pub fn push(kind: PushKind, push: &Push, held: usize, next: u64) -> Check {
     let times = in_limits(push.start) && end_in_limits(push.end);
     refuse_if(
@@ -54,6 +54,7 @@ pub fn push(kind: PushKind, push: &Push, held: usize, next: u64) -> Check {
     let duration = end - push.start;
     refuse_if(!(push.fade_in <= duration && push.fade_out <= duration), 4)?;
     refuse_if(!source_is_finite(push.source), 5)?;
+    refuse_if(!push.gain().is_finite(), 18)?;
     refuse_if(held >= MAX_HELD, 6)?;
     refuse_if(next == 0, 7)
 }

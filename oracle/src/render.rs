@@ -1,6 +1,8 @@
 //! What the port's C-callable entry must write for a tape.
 
 use crate::engine::Engine;
+use crate::judge::{Judge, judge};
+use crate::ledger::Ledger;
 use crate::player::{Player, Pool};
 use crate::session::Session;
 use crate::state::sample_bits;
@@ -14,11 +16,18 @@ pub fn render(tape: &[u8], out: &mut [u8], pool: &Pool) -> usize {
 
 /// Render a tape into a byte slice; where the bytes of each tick and block that fit end.
 pub fn render_ends(tape: &[u8], out: &mut [u8], pool: &Pool) -> Vec<usize> {
+    match judge(Format::Tape, tape) {
+        Judge::Original => ends_by::<Engine>(tape, out, pool),
+        Judge::Ledger => ends_by::<Ledger>(tape, out, pool),
+    }
+}
+
+fn ends_by<P: Player>(tape: &[u8], out: &mut [u8], pool: &Pool) -> Vec<usize> {
     let (calls, _) = tape::records(Format::Tape, tape);
     let Some((creation, calls)) = calls.split_first() else {
         return Vec::new();
     };
-    let (mut session, answer) = Session::<Engine>::create((), creation, pool);
+    let (mut session, answer) = Session::<P>::create(P::Variant::default(), creation, pool);
     if answer.refusal() != 0 {
         return Vec::new();
     }

@@ -9,6 +9,7 @@ pub struct EventState {
     pub end: u64,
     pub fade_in: u64,
     pub fade_out: u64,
+    pub gain: u32,
     pub curve: Curve,
     pub source: Source,
     /// A ramp's next value; 0 with other sources.

@@ -5,7 +5,7 @@ use crate::call::{Call, Curve, Edit, Mode, Push, PushKind, Source, Timing};
 /// What may stand on a tape.
 #[derive(Clone, Copy, PartialEq, Eq, Debug)]
 pub enum Format {
-    /// Document 01's tape: kinds 00 to 09.
+    /// Document 01's tape with document 02's Paper 5: kinds 00 to 0C.
     Tape,
     /// A tape with kinds 11 to 14 for what is lent and for many blocks at once.
     Script,
@@ -29,6 +29,7 @@ fn body_length(format: Format, kind: u8) -> Option<usize> {
     match kind {
         0x00 => Some(10),
         0x01..=0x03 => Some(42),
+        0x0A..=0x0C => Some(42 + 4),
         0x04 | 0x05 => Some(24),
         0x06 | 0x08 => Some(0),
         0x07 => Some(1),
@@ -46,7 +47,7 @@ fn body_length(format: Format, kind: u8) -> Option<usize> {
 fn checked_bytes(kind: u8) -> &'static [(usize, u8)] {
     match kind {
         0x00 => &[(1, 1)],
-        0x01..=0x03 => &[(32, 1), (33, 2)],
+        0x01..=0x03 | 0x0A..=0x0C => &[(32, 1), (33, 2)],
         _ => &[],
     }
 }
@@ -82,6 +83,10 @@ fn u64_at(body: &[u8], place: usize) -> u64 {
     u64::from_le_bytes(body[place..place + 8].try_into().unwrap())
 }
 
+fn f32_at(body: &[u8], place: usize) -> f32 {
+    f32::from_bits(u32_at(body, place))
+}
+
 fn f64_at(body: &[u8], place: usize) -> f64 {
     f64::from_bits(u64_at(body, place))
 }
@@ -94,9 +99,12 @@ fn take_apart(kind: u8, body: &[u8]) -> Call {
             mode: if body[1] == 0 { Mode::All } else { Mode::None },
             first: u64_at(body, 2),
         },
-        0x01 => push(PushKind::Absolute, body),
-        0x02 => push(PushKind::Relative, body),
-        0x03 => push(PushKind::Duration, body),
+        0x01 => push(PushKind::Absolute, body, None),
+        0x02 => push(PushKind::Relative, body, None),
+        0x03 => push(PushKind::Duration, body, None),
+        0x0A => push(PushKind::Absolute, body, Some(f32_at(body, 42))),
+        0x0B => push(PushKind::Relative, body, Some(f32_at(body, 42))),
+        0x0C => push(PushKind::Duration, body, Some(f32_at(body, 42))),
         0x04 => Call::Edit(Timing::Absolute, edit(body)),
         0x05 => Call::Edit(Timing::Relative, edit(body)),
         0x06 => Call::Tick,
@@ -115,7 +123,7 @@ fn take_apart(kind: u8, body: &[u8]) -> Call {
     }
 }
 
-fn push(kind: PushKind, body: &[u8]) -> Call {
+fn push(kind: PushKind, body: &[u8], written_gain: Option<f32>) -> Call {
     let (word, other) = (u32_at(body, 34), u32_at(body, 38));
     let (source, unused) = match body[33] {
         0 => {
@@ -142,6 +150,7 @@ fn push(kind: PushKind, body: &[u8]) -> Call {
             Curve::Smooth
         },
         source,
+        written_gain,
     };
     Call::Push(kind, push, unused)
 }
@@ -186,6 +195,9 @@ pub fn write(tape: &mut Vec<u8>, call: &Call) {
             tape.push(source);
             tape.extend(word.to_le_bytes());
             tape.extend(other.to_le_bytes());
+            if let Some(gain) = push.written_gain {
+                tape.extend(gain.to_bits().to_le_bytes());
+            }
         }
         Call::Edit(_, edit) => {
             tape.extend(edit.number.to_le_bytes());

@@ -78,7 +78,11 @@ fn push_line(kind: PushKind, push: &Push, unused: u32) -> String {
     };
     let [start, end, fade_in, fade_out] =
         [push.start, push.end, push.fade_in, push.fade_out].map(double);
-    format!("{name} {start} {end} {fade_in} {fade_out} {curve} {source}")
+    let gain = match push.written_gain {
+        Some(gain) => format!(" gain {}", single(gain)),
+        None => String::new(),
+    };
+    format!("{name} {start} {end} {fade_in} {fade_out} {curve} {source}{gain}")
 }
 
 /// Shortest digits that read back as the same number; a NaN by its bits.
@@ -120,6 +124,11 @@ struct Words<'a>(SplitWhitespace<'a>);
 impl<'a> Words<'a> {
     fn word(&mut self) -> Result<&'a str, String> {
         self.0.next().ok_or("a word is missing".into())
+    }
+
+    /// Whether there is a next word, and it is such a one.
+    fn next_is(&self, such: impl Fn(&str) -> bool) -> bool {
+        self.0.clone().next().is_some_and(such)
     }
 
     fn number<T: FromStr>(&mut self) -> Result<T, String> {
@@ -210,7 +219,7 @@ fn read_push(kind: PushKind, words: &mut Words) -> Result<Call, String> {
     let source = match words.word()? {
         "held" => {
             let level = words.single()?;
-            if words.0.clone().next().is_some() {
+            if words.next_is(|word| word != "gain") {
                 unused = words.number()?;
             }
             Source::Held { level }
@@ -225,6 +234,11 @@ fn read_push(kind: PushKind, words: &mut Words) -> Result<Call, String> {
         },
         word => return Err(format!("unknown source {word}")),
     };
+    let mut written_gain = None;
+    if words.next_is(|word| word == "gain") {
+        words.word()?;
+        written_gain = Some(words.single()?);
+    }
     let push = Push {
         start,
         end,
@@ -232,6 +246,7 @@ fn read_push(kind: PushKind, words: &mut Words) -> Result<Call, String> {
         fade_out,
         curve,
         source,
+        written_gain,
     };
     Ok(Call::Push(kind, push, unused))
 }

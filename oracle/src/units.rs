@@ -1,4 +1,4 @@
-//! The three sources as audio units, and the pool that is lent to a call.
+//! The three sources as audio units, the gain that such a unit can have, and the pool that is lent to a call.
 //!
 //! The pool is lent through a thread-local, so that the vendored signatures stay as they are.
 
@@ -83,11 +83,24 @@ impl Signal for Clip {
     }
 }
 
-/// A unit whose one value feeds all channels.
+/// A unit whose one value feeds all channels. The Rust has no gain: one of 1.0 leaves the signal alone, and another is the
+/// unit's own business, so that no vendored line changes.
 #[derive(Clone)]
 struct Unit<S> {
     signal: S,
+    gain: f32,
     outputs: usize,
+}
+
+impl<S: Signal> Unit<S> {
+    fn next(&mut self) -> f32 {
+        let sample = self.signal.next();
+        if self.gain == 1.0 {
+            sample
+        } else {
+            sample * self.gain
+        }
+    }
 }
 
 impl<S: Signal> AudioUnit for Unit<S> {
@@ -96,12 +109,12 @@ impl<S: Signal> AudioUnit for Unit<S> {
     }
 
     fn tick(&mut self, _input: &[f32], output: &mut [f32]) {
-        output.fill(self.signal.next());
+        output.fill(self.next());
     }
 
     fn process(&mut self, size: usize, _input: &BufferRef, output: &mut BufferMut) {
         for place in 0..size {
-            let sample = self.signal.next();
+            let sample = self.next();
             for channel in 0..self.outputs {
                 output.set_f32(channel, place, sample);
             }
@@ -129,11 +142,12 @@ impl<S: Signal> AudioUnit for Unit<S> {
     }
 }
 
-/// The unit of a source.
-pub fn unit(source: Source, outputs: usize) -> Box<dyn AudioUnit> {
+/// The unit of a source with its gain.
+pub fn unit(source: Source, gain: f32, outputs: usize) -> Box<dyn AudioUnit> {
     match source {
         Source::Held { level } => Box::new(Unit {
             signal: Held { level },
+            gain,
             outputs,
         }),
         Source::Ramp { value, step } => Box::new(Unit {
@@ -142,6 +156,7 @@ pub fn unit(source: Source, outputs: usize) -> Box<dyn AudioUnit> {
                 step,
                 current: value,
             },
+            gain,
             outputs,
         }),
         Source::Clip { offset, length } => Box::new(Unit {
@@ -150,33 +165,34 @@ pub fn unit(source: Source, outputs: usize) -> Box<dyn AudioUnit> {
                 length,
                 place: 0,
             },
+            gain,
             outputs,
         }),
     }
 }
 
-/// A unit's source, a ramp's next value and a clip's place.
-pub fn place(unit: &dyn AudioUnit) -> (Source, f32, u32) {
+/// A unit's source and gain, a ramp's next value and a clip's place.
+pub fn place(unit: &dyn AudioUnit) -> (Source, f32, f32, u32) {
     let any: &dyn Any = unit;
-    if let Some(Unit { signal, .. }) = any.downcast_ref::<Unit<Held>>() {
+    if let Some(Unit { signal, gain, .. }) = any.downcast_ref::<Unit<Held>>() {
         let level = signal.level;
-        return (Source::Held { level }, 0.0, 0);
+        return (Source::Held { level }, *gain, 0.0, 0);
     }
-    if let Some(Unit { signal, .. }) = any.downcast_ref::<Unit<Ramp>>() {
+    if let Some(Unit { signal, gain, .. }) = any.downcast_ref::<Unit<Ramp>>() {
         let Ramp {
             value,
             step,
             current,
         } = *signal;
-        return (Source::Ramp { value, step }, current, 0);
+        return (Source::Ramp { value, step }, *gain, current, 0);
     }
-    if let Some(Unit { signal, .. }) = any.downcast_ref::<Unit<Clip>>() {
+    if let Some(Unit { signal, gain, .. }) = any.downcast_ref::<Unit<Clip>>() {
         let Clip {
             offset,
             length,
             place,
         } = *signal;
-        return (Source::Clip { offset, length }, 0.0, place);
+        return (Source::Clip { offset, length }, *gain, 0.0, place);
     }
     unreachable!("every unit comes from `unit`")
 }

@@ -50,7 +50,7 @@ fn named(what: &[&str], profile: &str, mutation: &str, parts: &str) {
 
 #[test]
 fn the_ledger_itself_passes() {
-    for profile in ["small", "swaps", "fades", "edits", "modes", "blocks"] {
+    for profile in ["small", "swaps", "fades", "edits", "modes", "blocks", "gains-one", "gains"] {
         for what in [LISTING, STATES] {
             let output = compare(what, profile, None);
             assert!(output.status.success(), "{output:?}");
@@ -79,6 +79,22 @@ fn fade_counted_by_rate() {
 #[test]
 fn fade_counted_from_the_edge() {
     caught(LISTING, "fades", "fade-from-edge");
+}
+
+#[test]
+fn gain_after_the_fades() {
+    caught(LISTING, "gains", "gain-after-fades");
+}
+
+#[test]
+fn ramp_goes_on_with_the_gain() {
+    caught(LISTING, "gains", "ramp-with-gain");
+    named(STATES, "gains", "ramp-with-gain", "sounding");
+}
+
+#[test]
+fn gain_0_holds_the_source() {
+    named(STATES, "gains", "gain-zero-holds", "sounding");
 }
 
 #[test]

@@ -5,9 +5,10 @@ use oracle::generate::{PROFILES, generate};
 use oracle::tape::{Format, Stop, read, records, write};
 use oracle::text::from_text;
 
-/// A push of kind 01 as bytes.
-fn push() -> Vec<u8> {
-    from_text("push 0 1 0 0 smooth held 1").unwrap()
+/// Pushes of kinds 01 and 0A as bytes.
+fn pushes() -> [Vec<u8>; 2] {
+    let text = "push 0 1 0 0 smooth held 1";
+    [text.into(), format!("{text} gain 0.5")].map(|text| from_text(&text).unwrap())
 }
 
 fn refusal(tape: &[u8], first: bool) -> u8 {
@@ -19,21 +20,24 @@ fn refusal(tape: &[u8], first: bool) -> u8 {
 
 #[test]
 fn every_cut_of_a_record_is_15() {
-    let tape = push();
-    for length in 1..tape.len() {
-        assert_eq!(refusal(&tape[..length], false), 15, "{length} bytes");
+    for (tape, whole) in pushes().into_iter().zip([43, 47]) {
+        assert_eq!(tape.len(), whole);
+        for length in 1..whole {
+            assert_eq!(refusal(&tape[..length], false), 15, "{length} bytes");
+        }
+        assert_eq!(refusal(&tape, false), 0);
     }
-    assert_eq!(refusal(&tape, false), 0);
 }
 
 #[test]
 fn an_unknown_byte_is_14_once_it_is_there() {
     for (place, unknown) in [(33, 2), (34, 3)] {
-        let mut tape = push();
-        tape[place] = unknown;
-        for length in 1..=tape.len() {
-            let expected = if length > place { 14 } else { 15 };
-            assert_eq!(refusal(&tape[..length], false), expected, "{length} bytes");
+        for mut tape in pushes() {
+            tape[place] = unknown;
+            for length in 1..=tape.len() {
+                let expected = if length > place { 14 } else { 15 };
+                assert_eq!(refusal(&tape[..length], false), expected, "{length} bytes");
+            }
         }
     }
     assert_eq!(refusal(&[0x00, 9], true), 15);
@@ -43,7 +47,7 @@ fn an_unknown_byte_is_14_once_it_is_there() {
 #[test]
 fn kinds_have_their_place() {
     for kind in 0..=255 {
-        let known = kind <= 9;
+        let known = kind <= 0x0C;
         assert_eq!(refusal(&[kind], true), if kind == 0 { 15 } else { 14 });
         let bare = matches!(kind, 6 | 8);
         let expected = if kind == 0 || !known {

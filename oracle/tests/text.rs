@@ -35,6 +35,21 @@ fn the_example_reads_as_in_document_01() {
     assert_eq!(from_text(text), Ok(tape));
 }
 
+/// Document 02, Paper 5: kinds 0A to 0C are 01 to 03 with four gain bytes at the end of the body.
+#[test]
+fn a_gain_stands_at_the_end() {
+    for (name, kind) in [("push", 1), ("push-relative", 2), ("push-duration", 3)] {
+        for source in ["held 1", "held 1 7", "ramp 1 2", "clip 3 4"] {
+            let plain = format!("{name} 0 1 0 0 power {source}");
+            let mut tape = from_text(&plain).unwrap();
+            assert_eq!(tape[0], kind);
+            tape[0] = kind + 9;
+            tape.extend(0.75f32.to_le_bytes());
+            assert_eq!(from_text(&format!("{plain} gain 0.75")), Ok(tape));
+        }
+    }
+}
+
 #[test]
 fn bad_lines_are_named() {
     for text in [
@@ -43,6 +58,8 @@ fn bad_lines_are_named() {
         "block 256",
         "tick 1",
         "push 0 1 0 0 smooth held",
+        "push 0 1 0 0 smooth held 1 gain",
+        "push 0 1 0 0 smooth held 1 gain 1 1",
         "bytes G0",
     ] {
         let error = from_text(&format!("create 1 all 1\n{text}\n")).unwrap_err();

@@ -69,7 +69,7 @@ abbrev pub pushKindOf : ℕ → PushKind
 pushKindOf kind = cond (eqb kind 1) absolute (cond (eqb kind 2) relative byDuration)
 
 abbrev pub pushed : PushKind → Sequencer → PushRecord → Outcome
-pushed kind s p = pushes kind s (p .«start_time») (p .«end_time») (p .«fade_ease») (p .«fade_in») (p .«fade_out») (p .source)
+pushed kind s p = pushes kind s (p .«start_time») (p .«end_time») (p .«fade_ease») (p .«fade_in») (p .«fade_out») (p .source) (p .gain)
 
 -- the call of each kind of record
 unfoldable pub appliedTo : (pool : List Float) → Sequencer → Call → (out : List Float) → Applied

@@ -126,10 +126,11 @@ fn push(s: Sequencer, kind: u8, p: PushRecord) -> Outcome
     let fade_in = p.fade_in;
     let fade_out = p.fade_out;
     let source = p.source;
+    let gain = p.gain;
     match kind {
-        1 => s.push(start, end, ease, fade_in, fade_out, source),
-        2 => s.push_relative(start, end, ease, fade_in, fade_out, source),
-        _ => s.push_duration(start, end, ease, fade_in, fade_out, source),
+        1 => s.push(start, end, ease, fade_in, fade_out, source, gain),
+        2 => s.push_relative(start, end, ease, fade_in, fade_out, source, gain),
+        _ => s.push_duration(start, end, ease, fade_in, fade_out, source, gain),
     }
 }
 

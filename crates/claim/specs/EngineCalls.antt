@@ -28,7 +28,7 @@ abbrev pub gives : Outcome → (out : List Float) → Sequencer × Reply
 gives o out = (o .sequencer, record { answer = answerOf (o .answer); out = out; scratch = none; filled = 64 })
 
 abbrev pub engineCall : Sequencer → Call → Sequencer × Reply
-engineCall s (push kind start end fade-in fade-out curve source) = gives (pushes kind s start end curve fade-in fade-out source) []
+engineCall s (push kind start end fade-in fade-out curve source gain) = gives (pushes kind s start end curve fade-in fade-out source gain) []
 engineCall s (edit kind k end fade-out) = gives (edits kind s (record { 0 = k }) end fade-out) []
 engineCall s (tick pool out) = gives (ticks pool (length out) s) (tickOuts pool s out)
 engineCall s (block n pool out scratch) = gives (blocks pool n (length out) s) (blockOuts pool n s out)

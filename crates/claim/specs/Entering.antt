@@ -83,13 +83,13 @@ related-push-event s l e room r = go (lt (e .«start_time») (l .threshold)) ref
 pub same-next : {s : Sequencer} {l : Ledger} → l .next < 2 ^ 64 → Related s l → s .next ≡ l .next
 same-next h r = omega (arith, r .plain .6)
 
-pub related-admitted : (s : Sequencer) (l : Ledger) (start end : Float) (curve : Fade) (fade-in fade-out : Float) (source : Source) → held l < 256 → l .next < 2 ^ 64 → Related s l
-    → Related (admitted s start end curve fade-in fade-out source .sequencer) (enter l (newEvent start end fade-in fade-out curve source (l .next)))
-    × (answerOf (admitted s start end curve fade-in fade-out source .answer) ≡ number (l .next))
+pub related-admitted : (s : Sequencer) (l : Ledger) (start end : Float) (curve : Fade) (fade-in fade-out : Float) (source : Source) (gain : Float) → held l < 256 → l .next < 2 ^ 64 → Related s l
+    → Related (admitted s start end curve fade-in fade-out source gain .sequencer) (enter l (newEvent start end fade-in fade-out curve source gain (l .next)))
+    × (answerOf (admitted s start end curve fade-in fade-out source gain .answer) ≡ number (l .next))
 unfolding admitted
-related-admitted s l start end curve fade-in fade-out source room h r =
+related-admitted s l start end curve fade-in fade-out source gain room h r =
     let q = same-next h r in (
-      subst (λ (k : ℕ). Related (enters s (newEvent start end fade-in fade-out curve source k)) (enter l (newEvent start end fade-in fade-out curve source (l .next)))) (sym q)
-          (related-push-event s l (newEvent start end fade-in fade-out curve source (l .next)) room r),
+      subst (λ (k : ℕ). Related (enters s (newEvent start end fade-in fade-out curve source gain k)) (enter l (newEvent start end fade-in fade-out curve source gain (l .next)))) (sym q)
+          (related-push-event s l (newEvent start end fade-in fade-out curve source gain (l .next)) room r),
       ap number q,
     )

@@ -62,11 +62,11 @@ spent n m p q h = go (decLt n (2 ^ 64))
     go (yes k) = ne-eqb m 0 (λ z. omega arith) ∙ sym (lt-leb (2 ^ 64) n k)
     go (no k) = eq-eqb m 0 (omega arith) ∙ sym (le-leb (2 ^ 64) n (omega arith))
 
-pub push-refused : (l : Ledger) (kind : PushKind) (start end fade-in fade-out : Float) (curve : Fade) (source : Source) (holds next : ℕ)
+pub push-refused : (l : Ledger) (kind : PushKind) (start end fade-in fade-out : Float) (curve : Fade) (source : Source) (gain : Float) (holds next : ℕ)
     → leb 256 holds ≡ leb 256 (held l) → eqb next 0 ≡ leb (2 ^ 64) (l .next)
-    → Agrees (pushRefusal start end (statedEnd kind start end -ᵈ start) fade-in fade-out source holds next) (refusal l (push kind start end fade-in fade-out curve source))
+    → Agrees (pushRefusal start end (statedEnd kind start end -ᵈ start) fade-in fade-out source gain holds next) (refusal l (push kind start end fade-in fade-out curve source gain))
 unfolding pushRefusal refusal checks pushChecks
-push-refused l kind start end fade-in fade-out curve source holds next p q = rw (p, q) (agrees (pushChecks l kind start end fade-in fade-out source) (tt, (tt, (tt, (tt, (tt, tt))))))
+push-refused l kind start end fade-in fade-out curve source gain holds next p q = rw (p, q) (agrees (pushChecks l kind start end fade-in fade-out source gain) (tt, (tt, (tt, (tt, (tt, (tt, tt)))))))
 
 -- ---- an edit
 

@@ -46,11 +46,11 @@ changed-free s k d Nothing false = refl
 
 pub refused-unchanged : (s : Sequencer) (c : Call) (k : ℕ) → engineCall s c .1 .answer ≡ refused k → Unchanged s c (engineCall s c)
 unfolding pushes pushesTo admitted edits amended changed ticks tickOuts blocks blockOuts rates
-refused-unchanged s (push kind start end fade-in fade-out curve source) k h =
+refused-unchanged s (push kind start end fade-in fade-out curve source gain) k h =
     let held = min (s .«ready_len» + (s .«active_len» + s .«past_len»)) 256 in
-    let n = pushRefusal start end (statedEnd kind start end -ᵈ start) fade-in fade-out source held (s .next) in
+    let n = pushRefusal start end (statedEnd kind start end -ᵈ start) fade-in fade-out source gain held (s .next) in
     let t = s .time in
-    by-test s k n (eqb n 0) (admitted s (pushedTime kind t start) (pushedTime kind t (statedEnd kind start end)) curve fade-in fade-out source) (λ b. []) refl h
+    by-test s k n (eqb n 0) (admitted s (pushedTime kind t start) (pushedTime kind t (statedEnd kind start end)) curve fade-in fade-out source gain) (λ b. []) refl h
 refused-unchanged s (edit kind m end fade-out) k h =
     let id : EventId = record { 0 = m } in
     let until = editEnd kind (s .time) end in

@@ -87,19 +87,19 @@ first-of false b h = h
 
 -- ---- a push
 
-module _ (s : Sequencer) (l : Ledger) (kind : PushKind) (start end : Float) (curve : Fade) (fade-in fade-out : Float) (source : Source) where
-  pub keep-push : Lawful l → Related s l → Keeps (gives (pushes kind s start end curve fade-in fade-out source) []) (step l (push kind start end fade-in fade-out curve source))
+module _ (s : Sequencer) (l : Ledger) (kind : PushKind) (start end : Float) (curve : Fade) (fade-in fade-out : Float) (source : Source) (gain : Float) where
+  pub keep-push : Lawful l → Related s l → Keeps (gives (pushes kind s start end curve fade-in fade-out source gain) []) (step l (push kind start end fade-in fade-out curve source gain))
   unfolding pushes pushesTo admitted accept checks pushChecks
-  keep-push w r = by-refusal s l C N X r (push-refused l kind start end fade-in fade-out curve source H (s .next) counts (spent (l .next) (s .next) (w .positive) (w .next) (r .plain .6))) refl carried
+  keep-push w r = by-refusal s l C N X r (push-refused l kind start end fade-in fade-out curve source gain H (s .next) counts (spent (l .next) (s .next) (w .positive) (w .next) (r .plain .6))) refl carried
     where
       C : Call
-      C = push kind start end fade-in fade-out curve source
+      C = push kind start end fade-in fade-out curve source gain
 
       H : ℕ
       H = min (s .«ready_len» + (s .«active_len» + s .«past_len»)) 256
 
       N : ℕ
-      N = pushRefusal start end (statedEnd kind start end -ᵈ start) fade-in fade-out source H (s .next)
+      N = pushRefusal start end (statedEnd kind start end -ᵈ start) fade-in fade-out source gain H (s .next)
 
       counts : leb 256 H ≡ leb 256 (held l)
       counts =
@@ -107,16 +107,16 @@ module _ (s : Sequencer) (l : Ledger) (kind : PushKind) (start end : Float) (cur
           ap (leb 256) q
 
       X : Bool → Sequencer × Reply
-      X b = gives (cond b (admitted s (pushedTime kind (s .time) start) (pushedTime kind (s .time) (statedEnd kind start end)) curve fade-in fade-out source) (refuses s N)) []
+      X b = gives (cond b (admitted s (pushedTime kind (s .time) start) (pushedTime kind (s .time) (statedEnd kind start end)) curve fade-in fade-out source gain) (refuses s N)) []
 
       carried : refusal l C ≡ none → Keeps (X true) (accept l C)
       carried q =
           let p = passed l C q in
           subst
-          (λ (t : Float). let o = admitted s (pushedTime kind t start) (pushedTime kind t (statedEnd kind start end)) curve fade-in fade-out source in Keeps (gives o []) (accept l C))
+          (λ (t : Float). let o = admitted s (pushedTime kind t start) (pushedTime kind t (statedEnd kind start end)) curve fade-in fade-out source gain in Keeps (gives o []) (accept l C))
           (sym (r .plain .0))
-          (let k = related-admitted s l (pushedTime kind (l .clock) start) (pushedTime kind (l .clock) (statedEnd kind start end)) curve fade-in fade-out source
-          (nleb→lt 256 (held l) (p .1 .1 .1 .0)) (nleb→lt (2 ^ 64) (l .next) (p .1 .1 .1 .1 .0)) r in
+          (let k = related-admitted s l (pushedTime kind (l .clock) start) (pushedTime kind (l .clock) (statedEnd kind start end)) curve fade-in fade-out source gain
+          (nleb→lt 256 (held l) (p .1 .1 .1 .1 .0)) (nleb→lt (2 ^ 64) (l .next) (p .1 .1 .1 .1 .1 .0)) r in
           (k .0, record { answer = k .1; out = refl; scratch = tt }))
 
 -- ---- an edit
@@ -275,7 +275,7 @@ keep-reset s l w r = (related-reset s l w r, same-reply (Plain.answers done))
 -- ---- every call, blocks being lent no scratch
 
 pub keep : (s : Sequencer) (l : Ledger) (c : Call) → Lends false c → Lawful l → Related s l → Keeps (engineCall s c) (step l c)
-keep s l (push kind start end fade-in fade-out curve source) h w r = keep-push s l kind start end curve fade-in fade-out source w r
+keep s l (push kind start end fade-in fade-out curve source gain) h w r = keep-push s l kind start end curve fade-in fade-out source gain w r
 keep s l (edit kind k end fade-out) h w r = keep-edit s l kind k end fade-out r
 keep s l (tick pool out) h w r = keep-tick s l pool out w r
 keep s l (block n pool out none) h w r = keep-block s l n pool out w r

@@ -27,9 +27,12 @@ one-tick = back (tick [] (halfᶠ ∷ []))
 abbrev blockOf : (n : ℕ) → Call
 blockOf n = back (block n [] (replicate 64 halfᶠ))
 
--- held 1.0 without fades, and an edit without a fade-out
+-- held 1.0 without fades, at a gain and at 1.0, and an edit without a fade-out
+abbrev atGain : (gain : Float) → Message
+atGain gain = push absolute zeroᶠ oneᶠ zeroᶠ zeroᶠ Smooth (Held oneᶠ) gain
+
 abbrev plain : PushKind → (start end : Float) → Message
-plain kind start end = push kind start end zeroᶠ zeroᶠ Smooth (Held oneᶠ)
+plain kind start end = push kind start end zeroᶠ zeroᶠ Smooth (Held oneᶠ) oneᶠ
 
 abbrev ending : (number : ℕ) → (end : Float) → Message
 ending k end = edit absoluteEnd k end zeroᶠ
@@ -111,6 +114,11 @@ pub back-drains :
 unfolding inNone whole
 back-drains = (refl, refl, refl, refl, refl, refl)
 
+-- Paper 5: a queued push keeps its gain. 1.0 at gain 0.5.
+pub queued-gain : (lastOut (replies (front (atGain halfᶠ) ∷ one-tick ∷ [])) ≡ halfᶠ ∷ []) × (take 2 (lastOut (replies (front (atGain halfᶠ) ∷ blockOf 2 ∷ []))) ≡ halfᶠ ∷ halfᶠ ∷ [])
+unfolding replies
+queued-gain = (refl, refl)
+
 -- First to last: the second edit of 9 replaces the first. t, 0.125, is added when a message is handled.
 pub drained-in-order :
     let l : Ledger = inNone (front (plain relative oneᶠ +∞) ∷ front (plain byDuration oneᶠ halfᶠ) ∷ front (ending 9 halfᶠ) ∷ front (edit relativeEnd 9 oneᶠ zeroᶠ) ∷ one-tick ∷ front (plain relative oneᶠ +∞) ∷ front (edit relativeEnd 7 oneᶠ zeroᶠ) ∷ back (rate (whole 8)) ∷ []) .back in
@@ -180,11 +188,17 @@ pub clock-before-draining : answersFrom (deskAt 0 (whole 1_000_000_000) (reset �
 unfolding answersFrom deskAt whole
 clock-before-draining = refl
 
--- 3, 4, 5 as for the plain ledger, and before 13; a refused push uses no number.
-pub front-refusals : answersFrom (deskAt 0 zeroᶠ []) (front (plain absolute nan oneᶠ) ∷ front (push absolute zeroᶠ oneᶠ (whole 2) zeroᶠ Smooth (Held oneᶠ)) ∷ front (push absolute zeroᶠ oneᶠ zeroᶠ zeroᶠ Smooth (Held nan)) ∷ front held1 ∷ [])
-    ≡ refused 3 ∷ refused 4 ∷ refused 5 ∷ number 500 ∷ []
+-- 3, 4, 5, 18 as for the plain ledger, and before 13; a refused push uses no number.
+pub front-refusals : answersFrom (deskAt 0 zeroᶠ []) (front (plain absolute nan oneᶠ) ∷ front (push absolute zeroᶠ oneᶠ (whole 2) zeroᶠ Smooth (Held oneᶠ) oneᶠ) ∷ front (push absolute zeroᶠ oneᶠ zeroᶠ zeroᶠ Smooth (Held nan) oneᶠ) ∷ front (atGain -∞) ∷ front held1 ∷ [])
+    ≡ refused 3 ∷ refused 4 ∷ refused 5 ∷ refused 18 ∷ number 500 ∷ []
 unfolding answersFrom deskAt whole
 front-refusals = refl
+
+-- Paper 5: "A gain that is not finite is refused as 18, directly after 5": behind 5, before 6 (256 held), before 13 (64 queued).
+pub front-refusal-18 : (answersFrom (desk (replicate 256 (event zeroᶠ 1)) [] [] [] []) (front (push relative zeroᶠ oneᶠ zeroᶠ zeroᶠ Smooth (Held nan) nan) ∷ front (atGain nan) ∷ front held1 ∷ []) ≡ refused 5 ∷ refused 18 ∷ refused 6 ∷ [])
+    × (answersFrom (deskAt 0 zeroᶠ (replicate 64 reset)) (front (atGain +∞) ∷ front held1 ∷ []) ≡ refused 18 ∷ refused 13 ∷ [])
+unfolding answersFrom deskAt fresh
+front-refusal-18 = (refl, refl)
 
 -- 6. "256 events are held in W, S and F (on the desk, with queued pushes)": queued edits and resets do not count.
 pub holds-with-queued : answersFrom (desk (replicate 250 (event zeroᶠ 1)) [] [] (ending 1 oneᶠ ∷ reset ∷ replicate 5 held1) []) (front held1 ∷ front held1 ∷ []) ≡ number 6 ∷ refused 6 ∷ []

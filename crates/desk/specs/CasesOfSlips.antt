@@ -18,10 +18,10 @@ use Rattle.ledger.specs.Steps.{withLists}
 use Rattle.desk.specs.Desk.{Message, push, edit, reset, tick, front, back, Desk, opened, sendFinished, restarted, deskRefusal, run}
 
 abbrev pub held1 : Message
-held1 = push absolute zeroᶠ oneᶠ zeroᶠ zeroᶠ Smooth (Held oneᶠ)
+held1 = push absolute zeroᶠ oneᶠ zeroᶠ zeroᶠ Smooth (Held oneᶠ) oneᶠ
 
 abbrev pub event : (start : Float) → (number : ℕ) → Event
-event start k = newEvent start oneᶠ zeroᶠ zeroᶠ Smooth (Held oneᶠ) k
+event start k = newEvent start oneᶠ zeroᶠ zeroᶠ Smooth (Held oneᶠ) oneᶠ k
 
 -- a desk in mode None that holds these
 abbrev pub desk : (waiting sounding finished : List Event) → (queued : List Message) → (returned : List ℕ) → Desk

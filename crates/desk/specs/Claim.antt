@@ -75,8 +75,8 @@ deskAfter channels mode first cs =
 -- the queued messages, the pushes numbered from k on
 abbrev pub sentFrom : (k : ℕ) → List Message → List Sent
 sentFrom k [] = []
-sentFrom k (push kind start end fade-in fade-out curve source ∷ q) =
-    event (isRelative kind) (newEvent start (statedEnd kind start end) fade-in fade-out curve source k) ∷ sentFrom (suc k) q
+sentFrom k (push kind start end fade-in fade-out curve source gain ∷ q) =
+    event (isRelative kind) (newEvent start (statedEnd kind start end) fade-in fade-out curve source gain k) ∷ sentFrom (suc k) q
 sentFrom k (edit kind n end fade-out ∷ q) = change (endRelative kind) n (record { «end_time» = end; «fade_out» = fade-out }) ∷ sentFrom k q
 sentFrom k (reset ∷ q) = restart ∷ sentFrom k q
 

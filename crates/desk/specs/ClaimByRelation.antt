@@ -28,7 +28,7 @@ use Rattle.desk.specs.Partition.{queuedNumbers, DeskPartition, length-up
 
 pub sent-numbers : (k : ℕ) (q : List Message) → sentNumbers (sentFrom k q) ≡ upFrom k (pushesIn q)
 sent-numbers k [] = refl
-sent-numbers k (push kind start end fade-in fade-out curve source ∷ q) = ap (λ (l : List ℕ). k ∷ l) (sent-numbers (suc k) q)
+sent-numbers k (push kind start end fade-in fade-out curve source gain ∷ q) = ap (λ (l : List ℕ). k ∷ l) (sent-numbers (suc k) q)
 sent-numbers k (edit kind n end fade-out ∷ q) = sent-numbers k q
 sent-numbers k (reset ∷ q) = sent-numbers k q
 

@@ -22,7 +22,7 @@ use Rattle.ledger.specs.Steps.{withLists, accept, restart}
 
 -- what the front queues
 pub data Message : Type 0 where
-  push : PushKind → (start end fade-in fade-out : Float) → Fade → Source → Message
+  push : PushKind → (start end fade-in fade-out : Float) → Fade → Source → (gain : Float) → Message
   edit : EditKind → (number : ℕ) → (end fade-out : Float) → Message
   reset : Message
 
@@ -49,7 +49,7 @@ pub record Reply : Type 0 where
 
 -- the plain ledger's calls
 abbrev pub messageCall : Message → Calls.Call
-messageCall (push kind start end fade-in fade-out curve source) = Calls.push kind start end fade-in fade-out curve source
+messageCall (push kind start end fade-in fade-out curve source gain) = Calls.push kind start end fade-in fade-out curve source gain
 messageCall (edit kind k end fade-out) = Calls.edit kind k end fade-out
 messageCall reset = Calls.reset
 
@@ -68,13 +68,13 @@ pub record Desk : Type 0 where
 
 abbrev pub pushesIn : List Message → ℕ
 pushesIn [] = 0
-pushesIn (push kind start end fade-in fade-out curve source ∷ q) = suc (pushesIn q)
+pushesIn (push kind start end fade-in fade-out curve source gain ∷ q) = suc (pushesIn q)
 pushesIn (edit kind k end fade-out ∷ q) = pushesIn q
 pushesIn (reset ∷ q) = pushesIn q
 
 abbrev pub editsIn : List Message → ℕ
 editsIn [] = 0
-editsIn (push kind start end fade-in fade-out curve source ∷ q) = editsIn q
+editsIn (push kind start end fade-in fade-out curve source gain ∷ q) = editsIn q
 editsIn (edit kind k end fade-out ∷ q) = suc (editsIn q)
 editsIn (reset ∷ q) = editsIn q
 
@@ -121,7 +121,7 @@ resetOf d = restarted (d .back .mode) d
 unfoldable pub drain : List Message → Desk → Desk
 unfolding accept restarted
 drain [] d = d
-drain (push kind start end fade-in fade-out curve source ∷ q) d = drain q (withBack (accept (d .back) (Calls.push kind start end fade-in fade-out curve source) .ledger) d)
+drain (push kind start end fade-in fade-out curve source gain ∷ q) d = drain q (withBack (accept (d .back) (Calls.push kind start end fade-in fade-out curve source gain) .ledger) d)
 drain (edit kind k end fade-out ∷ q) d = drain q (withBack (accept (d .back) (Calls.edit kind k end fade-out) .ledger) d)
 drain (reset ∷ q) d = resetOf (drain q d)
 
@@ -137,8 +137,8 @@ full d = refuses 13 (leb 64 (length (d .queued)))
 -- 6 and 7 count queued pushes too; 9 counts queued edits, for any edit
 unfoldable pub frontChecks : Desk → Message → List Check
 unfolding within withinEnd statedEnd sub lt
-frontChecks d (push kind start end fade-in fade-out curve source) =
-    pushChecksAt (held (d .back) + pushesIn (d .queued)) (nextNumber d) kind start end fade-in fade-out source ++ (full d ∷ [])
+frontChecks d (push kind start end fade-in fade-out curve source gain) =
+    pushChecksAt (held (d .back) + pushesIn (d .queued)) (nextNumber d) kind start end fade-in fade-out source gain ++ (full d ∷ [])
 frontChecks d (edit kind k end fade-out) =
     refuses 8 (not (withinEnd end && within fade-out))
     ∷ refuses 9 (leb 256 (length (d .back .edits) + editsIn (d .queued)))
@@ -165,7 +165,7 @@ sends d m = record {
 }
   where
     answerTo : Message → Answer
-    answerTo (push kind start end fade-in fade-out curve source) = number (nextNumber d)
+    answerTo (push kind start end fade-in fade-out curve source gain) = number (nextNumber d)
     answerTo (edit kind k end fade-out) = queued
     answerTo reset = queued
 

@@ -9,6 +9,7 @@ use native.Mathlib.Omega.{arith}
 use lib.Dec.{T, leb, eqb, leb→le, nltb→le, not-T}
 use lib.ListN.{length}
 use lib.Ieee.{Float, lt, le, eq}
+use lib.Ieee.Scale.{finite}
 use Rattle.event.specs.declared.Edit.{Edit}
 use Rattle.event.specs.declared.ReplayMode.{ReplayMode}
 use Rattle.event.specs.declared.ReplayMode.the-variants.{All, None}
@@ -31,14 +32,15 @@ use Rattle.desk.specs.FreshEnd.{tick-within, block-within}
 use Rattle.desk.specs.LetGo.{finished-sum, restarted-sum, returned-few}
 use Rattle.desk.specs.Desk.{Message, push, edit, reset, BackCall, tick, block, rate, Call, back, messageCall, backCall, Desk, pushesIn, editsIn, nextNumber, withBack, sendFinished, restarted, resetOf, drain, drained, decide, step}
 
--- ---- what a queued message has passed: a push 3 to 5, an edit 8
+-- ---- what a queued message has passed: a push 3 to 5 and 18, an edit 8
 
 abbrev pub ownChecks : Message → List Check
-ownChecks (push kind start end fade-in fade-out curve source) =
+ownChecks (push kind start end fade-in fade-out curve source gain) =
     let lasts = statedEnd kind start end -ᵈ start in
     refuses 3 (not (within start && withinEnd end && within fade-in && within fade-out))
     ∷ refuses 4 (lasts <ᶠ fade-in || lasts <ᶠ fade-out)
-    ∷ refuses 5 (not (finiteSource source)) ∷ []
+    ∷ refuses 5 (not (finiteSource source))
+    ∷ refuses 18 (not (finite gain)) ∷ []
 ownChecks (edit kind k end fade-out) = refuses 8 (not (withinEnd end && within fade-out)) ∷ []
 ownChecks reset = []
 
@@ -68,7 +70,7 @@ deskOf l q r = record { back = l; queued = q; returned = r }
 
 -- the back once a message is handled; a reset acts only when those behind it are handled
 abbrev pub handled : Ledger → Message → Ledger
-handled l (push kind start end fade-in fade-out curve source) = accept l (Calls.push kind start end fade-in fade-out curve source) .ledger
+handled l (push kind start end fade-in fade-out curve source gain) = accept l (Calls.push kind start end fade-in fade-out curve source gain) .ledger
 handled l (edit kind k end fade-out) = accept l (Calls.edit kind k end fade-out) .ledger
 handled l reset = l
 
@@ -97,10 +99,10 @@ accept-lawful l c h w = subst (λ (o : Option ℕ). Lawful (Steps.decide o l c .
 
 pub handled-free : (l : Ledger) (m : Message) (q : List Message) (r : List ℕ) → DeskLawful (deskOf l (m ∷ q) r) → refusal l (messageCall m) ≡ none
 unfolding refusal checks pushChecks editChecks
-handled-free l (push kind start end fade-in fade-out curve source) q r w =
+handled-free l (push kind start end fade-in fade-out curve source gain) q r w =
     let p = w .passed .0 in
-    pass-all (pushChecks l kind start end fade-in fade-out source)
-    (p .0, (p .1 .0, (p .1 .1 .0, (fewer 256 (held l) (omega (arith, w .events)), (fewer (2 ^ 64) (l .next) (omega (arith, w .next)), tt)))))
+    pass-all (pushChecks l kind start end fade-in fade-out source gain)
+    (p .0, (p .1 .0, (p .1 .1 .0, (p .1 .1 .1 .0, (fewer 256 (held l) (omega (arith, w .events)), (fewer (2 ^ 64) (l .next) (omega (arith, w .next)), tt))))))
 handled-free l (edit kind k end fade-out) q r w =
     pass-all (editChecks l kind k end fade-out) (
       w .passed .0 .0,
@@ -132,7 +134,7 @@ change-kept l k x false false = record { channels = refl; mode = refl; rate = re
 
 pub handled-kept : (l : Ledger) (m : Message) → Kept l (handled l m)
 unfolding accept enter
-handled-kept l (push kind start end fade-in fade-out curve source) = record { channels = refl; mode = refl; rate = refl; duration = refl; clock = inl refl }
+handled-kept l (push kind start end fade-in fade-out curve source gain) = record { channels = refl; mode = refl; rate = refl; duration = refl; clock = inl refl }
 handled-kept l (edit kind k end fade-out) =
     change-kept l k (record { «end_time» = editEnd kind (l .clock) end; «fade_out» = fade-out }) (has k (l .sounding)) (editEnd kind (l .clock) end <ᶠ l .threshold)
 handled-kept l reset = same-ledger l
@@ -173,8 +175,8 @@ change-next l k x false false = refl
 
 pub handled-held : (l : Ledger) (m : Message) → held (handled l m) ≡ held l + pushesIn (m ∷ [])
 unfolding accept
-handled-held l (push kind start end fade-in fade-out curve source) =
-    let e = newEvent (pushedTime kind (l .clock) start) (pushedTime kind (l .clock) (statedEnd kind start end)) fade-in fade-out curve source (l .next) in
+handled-held l (push kind start end fade-in fade-out curve source gain) =
+    let e = newEvent (pushedTime kind (l .clock) start) (pushedTime kind (l .clock) (statedEnd kind start end)) fade-in fade-out curve source gain (l .next) in
     omega (arith, heldSum-enter (λ y n. 1) l e, held-is l, held-is (enter l e))
 handled-held l (edit kind k end fade-out) =
     let h = change-holds l k (record { «end_time» = editEnd kind (l .clock) end; «fade_out» = fade-out }) (has k (l .sounding)) (editEnd kind (l .clock) end <ᶠ l .threshold) in
@@ -183,7 +185,7 @@ handled-held l reset = omega arith
 
 pub handled-edits : (l : Ledger) (m : Message) → length (handled l m .edits) ≤ length (l .edits) + editsIn (m ∷ [])
 unfolding accept enter
-handled-edits l (push kind start end fade-in fade-out curve source) = omega arith
+handled-edits l (push kind start end fade-in fade-out curve source gain) = omega arith
 handled-edits l (edit kind k end fade-out) =
     let h = change-stores l k (record { «end_time» = editEnd kind (l .clock) end; «fade_out» = fade-out }) (has k (l .sounding)) (editEnd kind (l .clock) end <ᶠ l .threshold) in
     omega (arith, h)
@@ -191,24 +193,24 @@ handled-edits l reset = omega arith
 
 pub handled-next : (l : Ledger) (m : Message) → handled l m .next ≡ l .next + pushesIn (m ∷ [])
 unfolding accept enter
-handled-next l (push kind start end fade-in fade-out curve source) = omega arith
+handled-next l (push kind start end fade-in fade-out curve source gain) = omega arith
 handled-next l (edit kind k end fade-out) =
     let h = change-next l k (record { «end_time» = editEnd kind (l .clock) end; «fade_out» = fade-out }) (has k (l .sounding)) (editEnd kind (l .clock) end <ᶠ l .threshold) in
     omega (arith, h)
 handled-next l reset = omega arith
 
 pub pushes-first : (m : Message) (q : List Message) → pushesIn (m ∷ q) ≡ pushesIn (m ∷ []) + pushesIn q
-pushes-first (push kind start end fade-in fade-out curve source) q = omega arith
+pushes-first (push kind start end fade-in fade-out curve source gain) q = omega arith
 pushes-first (edit kind k end fade-out) q = omega arith
 pushes-first reset q = omega arith
 
 pub edits-first : (m : Message) (q : List Message) → editsIn (m ∷ q) ≡ editsIn (m ∷ []) + editsIn q
-edits-first (push kind start end fade-in fade-out curve source) q = omega arith
+edits-first (push kind start end fade-in fade-out curve source gain) q = omega arith
 edits-first (edit kind k end fade-out) q = omega arith
 edits-first reset q = omega arith
 
 handled-back : (l : Ledger) (m : Message) → refusal l (messageCall m) ≡ none → Lawful l → Lawful (handled l m)
-handled-back l (push kind start end fade-in fade-out curve source) h w = accept-lawful l (Calls.push kind start end fade-in fade-out curve source) h w
+handled-back l (push kind start end fade-in fade-out curve source gain) h w = accept-lawful l (Calls.push kind start end fade-in fade-out curve source gain) h w
 handled-back l (edit kind k end fade-out) h w = accept-lawful l (Calls.edit kind k end fade-out) h w
 handled-back l reset h w = w
 
@@ -363,16 +365,16 @@ kept-on l m n a b = record {
 pub drain-queued : (q : List Message) (d : Desk) → drain q d .queued ≡ d .queued
 unfolding drain
 drain-queued [] d = refl
-drain-queued (push kind start end fade-in fade-out curve source ∷ q) d = drain-queued q (withBack (handled (d .back) (push kind start end fade-in fade-out curve source)) d)
+drain-queued (push kind start end fade-in fade-out curve source gain ∷ q) d = drain-queued q (withBack (handled (d .back) (push kind start end fade-in fade-out curve source gain)) d)
 drain-queued (edit kind k end fade-out ∷ q) d = drain-queued q (withBack (handled (d .back) (edit kind k end fade-out)) d)
 drain-queued (reset ∷ q) d = restarted-fewer (drain q d .back .mode) (drain q d) .queued ∙ drain-queued q d
 
 pub drain-kept : (q : List Message) (d : Desk) → Kept (d .back) (drain q d .back)
 unfolding drain
 drain-kept [] d = same-ledger (d .back)
-drain-kept (push kind start end fade-in fade-out curve source ∷ q) d =
-    let l = handled (d .back) (push kind start end fade-in fade-out curve source) in
-    kept-on (d .back) l (drain q (withBack l d) .back) (handled-kept (d .back) (push kind start end fade-in fade-out curve source)) (drain-kept q (withBack l d))
+drain-kept (push kind start end fade-in fade-out curve source gain ∷ q) d =
+    let l = handled (d .back) (push kind start end fade-in fade-out curve source gain) in
+    kept-on (d .back) l (drain q (withBack l d) .back) (handled-kept (d .back) (push kind start end fade-in fade-out curve source gain)) (drain-kept q (withBack l d))
 drain-kept (edit kind k end fade-out ∷ q) d =
     let l = handled (d .back) (edit kind k end fade-out) in
     kept-on (d .back) l (drain q (withBack l d) .back) (handled-kept (d .back) (edit kind k end fade-out)) (drain-kept q (withBack l d))
@@ -383,8 +385,8 @@ drain-kept (reset ∷ q) d =
 pub drain-lawful : (q : List Message) (l : Ledger) (r : List ℕ) → DeskLawful (deskOf l q r) → DeskLawful (drain q (deskOf l [] r))
 unfolding drain
 drain-lawful [] l r w = w
-drain-lawful (push kind start end fade-in fade-out curve source ∷ q) l r w =
-    let m = push kind start end fade-in fade-out curve source in
+drain-lawful (push kind start end fade-in fade-out curve source gain ∷ q) l r w =
+    let m = push kind start end fade-in fade-out curve source gain in
     drain-lawful q (handled l m) r (handled-lawful l m q r w)
 drain-lawful (edit kind k end fade-out ∷ q) l r w =
     let m = edit kind k end fade-out in

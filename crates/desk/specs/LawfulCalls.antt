@@ -121,12 +121,12 @@ record Room (d : Desk) (m : Message) : Type 0 where
 
 room : (d : Desk) (m : Message) → DeskLawful d → AllPass (frontChecks d m) → Room d m
 unfolding frontChecks
-room d (push kind start end fade-in fade-out curve source) w h = record {
-  own = (h .0, (h .1 .0, (h .1 .1 .0, tt)));
-  events = omega (arith, nleb→lt 256 (held (d .back) + pushesIn (d .queued)) (h .1 .1 .1 .0));
+room d (push kind start end fade-in fade-out curve source gain) w h = record {
+  own = (h .0, (h .1 .0, (h .1 .1 .0, (h .1 .1 .1 .0, tt))));
+  events = omega (arith, nleb→lt 256 (held (d .back) + pushesIn (d .queued)) (h .1 .1 .1 .1 .0));
   edits = omega (arith, w .edits);
-  next = omega (arith, nleb→lt (2 ^ 64) (nextNumber d) (h .1 .1 .1 .1 .0));
-  messages = nleb→lt 64 (length (d .queued)) (h .1 .1 .1 .1 .1 .0);
+  next = omega (arith, nleb→lt (2 ^ 64) (nextNumber d) (h .1 .1 .1 .1 .1 .0));
+  messages = nleb→lt 64 (length (d .queued)) (h .1 .1 .1 .1 .1 .1 .0);
 }
 room d (edit kind k end fade-out) w h = record {
   own = (h .0, tt);

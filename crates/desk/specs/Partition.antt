@@ -59,8 +59,8 @@ restarted-queued None d = refl
 drain-next : (q : List Message) (d : Desk) → drain q d .back .next ≡ d .back .next + pushesIn q
 unfolding drain
 drain-next [] d = omega arith
-drain-next (push kind start end fade-in fade-out curve source ∷ q) d =
-    let m = push kind start end fade-in fade-out curve source in
+drain-next (push kind start end fade-in fade-out curve source gain ∷ q) d =
+    let m = push kind start end fade-in fade-out curve source gain in
     let n : handled (d .back) m .next ≡ d .back .next + 1 = handled-next (d .back) m in
     let r = drain-next q (withBack (handled (d .back) m) d) in
     omega (arith, n, r)
@@ -90,10 +90,10 @@ module _ (u : ℕ → ℕ) where
   abbrev pub deskSum : Desk → ℕ
   deskSum d = fourSum u (d .back) + numberSum u (queuedNumbers d)
 
-  push-sum : (l : Ledger) (kind : Calls.PushKind) (start end fade-in fade-out : Float) (curve : Fade) (source : Source)
-      → fourSum u (accept l (Calls.push kind start end fade-in fade-out curve source) .ledger) ≡ fourSum u l + u (l .next)
+  push-sum : (l : Ledger) (kind : Calls.PushKind) (start end fade-in fade-out : Float) (curve : Fade) (source : Source) (gain : Float)
+      → fourSum u (accept l (Calls.push kind start end fade-in fade-out curve source gain) .ledger) ≡ fourSum u l + u (l .next)
   unfolding accept
-  push-sum l kind start end fade-in fade-out curve source = omega (arith, accept-adds u l (Calls.push kind start end fade-in fade-out curve source))
+  push-sum l kind start end fade-in fade-out curve source gain = omega (arith, accept-adds u l (Calls.push kind start end fade-in fade-out curve source gain))
 
   edit-sum : (l : Ledger) (kind : Calls.EditKind) (k : ℕ) (end fade-out : Float) → fourSum u (accept l (Calls.edit kind k end fade-out) .ledger) ≡ fourSum u l
   unfolding accept
@@ -104,12 +104,12 @@ module _ (u : ℕ → ℕ) where
   drain-sum : (q : List Message) (d : Desk) → fourSum u (drain q d .back) ≡ fourSum u (d .back) + numberSum u (upFrom (d .back .next) (pushesIn q))
   unfolding drain
   drain-sum [] d = omega arith
-  drain-sum (push kind start end fade-in fade-out curve source ∷ q) d =
-      let l = accept (d .back) (Calls.push kind start end fade-in fade-out curve source) .ledger in
-      let n : l .next ≡ suc (d .back .next) = omega (arith, handled-next (d .back) (push kind start end fade-in fade-out curve source)) in
+  drain-sum (push kind start end fade-in fade-out curve source gain ∷ q) d =
+      let l = accept (d .back) (Calls.push kind start end fade-in fade-out curve source gain) .ledger in
+      let n : l .next ≡ suc (d .back .next) = omega (arith, handled-next (d .back) (push kind start end fade-in fade-out curve source gain)) in
       omega (
         arith,
-        push-sum (d .back) kind start end fade-in fade-out curve source,
+        push-sum (d .back) kind start end fade-in fade-out curve source gain,
         drain-sum q (withBack l d),
         ap (λ (a : ℕ). numberSum u (upFrom a (pushesIn q))) n,
       )
@@ -170,8 +170,8 @@ record Adds (d : Desk) (o : Outcome) : Type 0 where
 
 sends-adds : (d : Desk) (m : Message) → Adds d (sends d m)
 unfolding sends
-sends-adds d (push kind start end fade-in fade-out curve source) =
-    let m = push kind start end fade-in fade-out curve source in
+sends-adds d (push kind start end fade-in fade-out curve source gain) =
+    let m = push kind start end fade-in fade-out curve source gain in
     let n : pushesIn (d .queued ++ (m ∷ [])) ≡ suc (pushesIn (d .queued)) = omega (arith, pushes-last (d .queued) m) in
     record {
       weighs = λ u. omega (arith, ap (λ (k : ℕ). numberSum u (upFrom (d .back .next) k)) n, upFrom-last u (d .back .next) (pushesIn (d .queued)));

@@ -45,10 +45,10 @@ handled-related : (q : List Plain.Message) (d : SequencerBackend) (l : Ledger) (
     → DeskRelated (handled (length q) d) (drain q (deskOf l [] r))
 unfolding handled drain
 handled-related [] d l r w g = g
-handled-related (push kind start end fade-in fade-out curve source ∷ q) d l r w g =
-    let m = push kind start end fade-in fade-out curve source in
+handled-related (push kind start end fade-in fade-out curve source gain ∷ q) d l r w g =
+    let m = push kind start end fade-in fade-out curve source gain in
     subst (λ (e : SequencerBackend). DeskRelated e (drain q (deskOf (Laws.handled l m) [] r)))
-    (sym (handled-first d l m q r false (push-stays (isRelative kind) (newEvent start (statedEnd kind start end) fade-in fade-out curve source (l .next))) g))
+    (sym (handled-first d l m q r false (push-stays (isRelative kind) (newEvent start (statedEnd kind start end) fade-in fade-out curve source gain (l .next))) g))
     (handled-related q (stepped d) (Laws.handled l m) r (handled-lawful l m q r w) (stepped-related d l m q r w g))
 handled-related (edit kind k end fade-out ∷ q) d l r w g =
     let m = edit kind k end fade-out in

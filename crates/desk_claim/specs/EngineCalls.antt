@@ -31,7 +31,7 @@ abbrev pub gives : Outcome → (out : List Float) → SequencerBackend × Reply
 gives o out = (o .backend, record { answer = answerOf (o .answer); out = out })
 
 abbrev pub deskCall : SequencerBackend → Call → SequencerBackend × Reply
-deskCall d (front (push kind start end fade-in fade-out curve source)) = gives (pushes kind d start end curve fade-in fade-out source) []
+deskCall d (front (push kind start end fade-in fade-out curve source gain)) = gives (pushes kind d start end curve fade-in fade-out source gain) []
 deskCall d (front (edit kind k end fade-out)) = gives (edits kind d (record { 0 = k }) end fade-out) []
 deskCall d (front reset) = gives (resets d) []
 deskCall d (back (tick pool out)) = gives (ticks pool (length out) d) (tickOuts pool d out)

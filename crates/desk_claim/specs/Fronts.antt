@@ -63,19 +63,19 @@ module _ (d : SequencerBackend) (D : Desk) (w : DeskLawful D) (r : DeskRelated d
 
   -- ---- a push
 
-  module _ (kind : PushKind) (start end : Float) (curve : Fade) (fade-in fade-out : Float) (source : Source) where
-    pub keep-push : Keeps (gives (pushes kind d start end curve fade-in fade-out source) []) (step D (front (push kind start end fade-in fade-out curve source)))
+  module _ (kind : PushKind) (start end : Float) (curve : Fade) (fade-in fade-out : Float) (source : Source) (gain : Float) where
+    pub keep-push : Keeps (gives (pushes kind d start end curve fade-in fade-out source gain) []) (step D (front (push kind start end fade-in fade-out curve source gain)))
     unfolding pushes sendsPush queuedWith numbered deskRefusal carriedOut sends
-    keep-push = by-refusal d D (front M) N X r (push-agrees d D w r kind start end fade-in fade-out curve source) refl carried
+    keep-push = by-refusal d D (front M) N X r (push-agrees d D w r kind start end fade-in fade-out curve source gain) refl carried
       where
         M : Plain.Message
-        M = push kind start end fade-in fade-out curve source
+        M = push kind start end fade-in fade-out curve source gain
 
         N : ℕ
-        N = pushRefused d start end (statedEnd kind start end -ᵈ start) fade-in fade-out source
+        N = pushRefused d start end (statedEnd kind start end -ᵈ start) fade-in fade-out source gain
 
         message : ℕ → Message
-        message k = pushMessage (isRelative kind) (newEvent start (statedEnd kind start end) fade-in fade-out curve source k)
+        message k = pushMessage (isRelative kind) (newEvent start (statedEnd kind start end) fade-in fade-out curve source gain k)
 
         K : ℕ
         K = d .sequencer .next

@@ -90,13 +90,13 @@ acted-keeps m s = ap (λ (t : Sequencer). t .next) (acted-next m s (s .next))
 
 -- ---- a push
 
-acts-push : (kind : PushKind) (start end fade-in fade-out : Float) (curve : Fade) (source : Source) (k : ℕ) (s : Sequencer)
-    → acted (pushMessage (isRelative kind) (newEvent start end fade-in fade-out curve source k)) s
-    ≡ pushedEvent s (newEvent (pushedTime kind (s .time) start) (pushedTime kind (s .time) end) fade-in fade-out curve source k)
+acts-push : (kind : PushKind) (start end fade-in fade-out : Float) (curve : Fade) (source : Source) (gain : Float) (k : ℕ) (s : Sequencer)
+    → acted (pushMessage (isRelative kind) (newEvent start end fade-in fade-out curve source gain k)) s
+    ≡ pushedEvent s (newEvent (pushedTime kind (s .time) start) (pushedTime kind (s .time) end) fade-in fade-out curve source gain k)
 unfolding acted pushedRelative pushedTime
-acts-push absolute start end fade-in fade-out curve source k s = refl
-acts-push relative start end fade-in fade-out curve source k s = refl
-acts-push byDuration start end fade-in fade-out curve source k s = refl
+acts-push absolute start end fade-in fade-out curve source gain k s = refl
+acts-push relative start end fade-in fade-out curve source gain k s = refl
+acts-push byDuration start end fade-in fade-out curve source gain k s = refl
 
 backed-push : (s : Sequencer) (l : Ledger) (e : Event) → held l < 256 → Backed s l → Backed (pushedEvent s e) (enter l e)
 unfolding enter
@@ -128,9 +128,9 @@ backed-change s l k d room h r =
 backed-handled : (l : Ledger) (m : Plain.Message) (q : List Plain.Message) (r : List ℕ) (s : Sequencer) → DeskLawful (deskOf l (m ∷ q) r) → Backed s l
     → Backed (acted (messageOf (l .next) m) s) (handled l m)
 unfolding accept acted
-backed-handled l (push kind start end fade-in fade-out curve source) q r s w h =
-    let e : Float → Event = λ t. newEvent (pushedTime kind t start) (pushedTime kind t (statedEnd kind start end)) fade-in fade-out curve source (l .next) in
-    subst (λ (t : Sequencer). Backed t (enter l (e (l .clock)))) (sym (acts-push kind start (statedEnd kind start end) fade-in fade-out curve source (l .next) s))
+backed-handled l (push kind start end fade-in fade-out curve source gain) q r s w h =
+    let e : Float → Event = λ t. newEvent (pushedTime kind t start) (pushedTime kind t (statedEnd kind start end)) fade-in fade-out curve source gain (l .next) in
+    subst (λ (t : Sequencer). Backed t (enter l (e (l .clock)))) (sym (acts-push kind start (statedEnd kind start end) fade-in fade-out curve source gain (l .next) s))
     (subst (λ (t : Float). Backed (pushedEvent s (e t)) (enter l (e (l .clock)))) (sym (h .plain .0)) (backed-push s l (e (l .clock)) (omega (arith, w .events)) h))
 backed-handled l (edit kind k end fade-out) q r s w h =
     let id : EventId = record { 0 = k } in

@@ -7,6 +7,7 @@ use mathlib.Core.Option.{Option, none, some}
 use native.Mathlib.Omega.{arith}
 use lib.Dec.{leb, eqb}
 use lib.Ieee.{Float}
+use lib.Ieee.Scale.{finite}
 use lib.ListN.{length}
 use borrow.Author.Tests.{eq-eqb, ne-eqb}
 use Rattle.event.specs.declared.Fade.{Fade}
@@ -50,17 +51,18 @@ by-refusal d D c n X r h f t = go (deskRefusal D c) refl h
 
 -- ---- the engine's tests, one after another
 
-abbrev five : (a b c h n : Bool) → ℕ
-five a b c h n = cond a 3 (cond b 4 (cond c 5 (cond h 6 (cond n 7 0))))
+abbrev ofPush : (a b c g h n : Bool) → ℕ
+ofPush a b c g h n = cond a 3 (cond b 4 (cond c 5 (cond g 18 (cond h 6 (cond n 7 0)))))
 
-push-order : (a b c h n f : Bool) → cond (eqb (five a b c h n) 0) (cond f 13 0) (five a b c h n)
-    ≡ inOrder (refuses 3 a ∷ refuses 4 b ∷ refuses 5 c ∷ refuses 6 h ∷ refuses 7 n ∷ refuses 13 f ∷ [])
-push-order true b c h n f = refl
-push-order false true c h n f = refl
-push-order false false true h n f = refl
-push-order false false false true n f = refl
-push-order false false false false true f = refl
-push-order false false false false false f = refl
+push-order : (a b c g h n f : Bool) → cond (eqb (ofPush a b c g h n) 0) (cond f 13 0) (ofPush a b c g h n)
+    ≡ inOrder (refuses 3 a ∷ refuses 4 b ∷ refuses 5 c ∷ refuses 18 g ∷ refuses 6 h ∷ refuses 7 n ∷ refuses 13 f ∷ [])
+push-order true b c g h n f = refl
+push-order false true c g h n f = refl
+push-order false false true g h n f = refl
+push-order false false false true h n f = refl
+push-order false false false false true n f = refl
+push-order false false false false false true f = refl
+push-order false false false false false false f = refl
 
 edit-order : (a e f : Bool) → cond (eqb (cond a 8 0) 0) (cond e 9 (cond f 13 0)) (cond a 8 0) ≡ inOrder (refuses 8 a ∷ refuses 9 e ∷ refuses 13 f ∷ [])
 edit-order true e f = refl
@@ -93,20 +95,21 @@ module _ (d : SequencerBackend) (D : Desk) (w : DeskLawful D) (r : DeskRelated d
   pub full-is : leb 64 (d .messages .count) ≡ leb 64 (length (D .queued))
   full-is = ap (leb 64) count-is
 
-  pub push-agrees : (kind : PushKind) (start end fade-in fade-out : Float) (curve : Fade) (source : Source)
-      → Agrees (pushRefused d start end (statedEnd kind start end -ᵈ start) fade-in fade-out source) (firstOf (frontChecks D (push kind start end fade-in fade-out curve source)))
+  pub push-agrees : (kind : PushKind) (start end fade-in fade-out : Float) (curve : Fade) (source : Source) (gain : Float)
+      → Agrees (pushRefused d start end (statedEnd kind start end -ᵈ start) fade-in fade-out source gain) (firstOf (frontChecks D (push kind start end fade-in fade-out curve source gain)))
   unfolding pushRefused pushRefusal frontChecks
-  push-agrees kind start end fade-in fade-out curve source =
-      let C = frontChecks D (push kind start end fade-in fade-out curve source) in
+  push-agrees kind start end fade-in fade-out curve source gain =
+      let C = frontChecks D (push kind start end fade-in fade-out curve source gain) in
       let lasts = statedEnd kind start end -ᵈ start in
       let a = not (within start && withinEnd end && within fade-in && within fade-out) in
       let b = lasts <ᶠ fade-in || lasts <ᶠ fade-out in
       let c = not (finiteSource source) in
+      let g = not (finite gain) in
       let H = min (d .sequencer .«ready_len» + (d .sequencer .«active_len» + d .sequencer .«past_len»)) 256 + tallied (d .messages) 1 in
-      let same : pushRefused d start end lasts fade-in fade-out source ≡ inOrder C =
-      push-order a b c (leb 256 H) (eqb (d .sequencer .next) 0) (leb 64 (d .messages .count))
-      ∙ (λ i. inOrder (refuses 3 a ∷ refuses 4 b ∷ refuses 5 c ∷ refuses 6 (leb 256 (held-is i)) ∷ refuses 7 (none-left i) ∷ refuses 13 (full-is i) ∷ [])) in
-      subst (λ (n : ℕ). Agrees n (firstOf C)) (sym same) (agrees C (tt, (tt, (tt, (tt, (tt, (tt, tt)))))))
+      let same : pushRefused d start end lasts fade-in fade-out source gain ≡ inOrder C =
+      push-order a b c g (leb 256 H) (eqb (d .sequencer .next) 0) (leb 64 (d .messages .count))
+      ∙ (λ i. inOrder (refuses 3 a ∷ refuses 4 b ∷ refuses 5 c ∷ refuses 18 g ∷ refuses 6 (leb 256 (held-is i)) ∷ refuses 7 (none-left i) ∷ refuses 13 (full-is i) ∷ [])) in
+      subst (λ (n : ℕ). Agrees n (firstOf C)) (sym same) (agrees C (tt, (tt, (tt, (tt, (tt, (tt, (tt, tt))))))))
 
   pub edit-agrees : (kind : EditKind) (k : ℕ) (end fade-out : Float) → Agrees (editRefused d end fade-out) (firstOf (frontChecks D (edit kind k end fade-out)))
   unfolding editRefused editLimits frontChecks

@@ -55,10 +55,10 @@ by-full d k false o free h = never k (ap refusedWith (sym h) ∙ free)
 
 pub refused-unchanged : (d : SequencerBackend) (c : Call) (k : ℕ) → deskCall d c .1 .answer ≡ refused k → Unchanged d c (deskCall d c)
 unfolding pushes sendsPush sendsEdit resets ticks tickOuts blocks blockOuts rates
-refused-unchanged d (front (push kind start end fade-in fade-out curve source)) k h =
+refused-unchanged d (front (push kind start end fade-in fade-out curve source gain)) k h =
     let until = statedEnd kind start end in
-    let n = pushRefused d start end (until -ᵈ start) fade-in fade-out source in
-    let e = newEvent start until fade-in fade-out curve source (d .sequencer .next) in
+    let n = pushRefused d start end (until -ᵈ start) fade-in fade-out source gain in
+    let e = newEvent start until fade-in fade-out curve source gain (d .sequencer .next) in
     by-test d k n (eqb n 0) (record { backend = queuedWith (pushMessage (isRelative kind) e) (numbered d); answer = said (number (d .sequencer .next)) }) (λ b. []) refl h
 refused-unchanged d (front (edit kind m end fade-out)) k h =
     let n = editRefused d end fade-out in

@@ -33,7 +33,7 @@ use Rattle.desk_claim.specs.ReturnQueue.{Returns, returns-none}
 
 -- k is the next number
 abbrev pub messageOf : (k : ℕ) → Plain.Message → Message
-messageOf k (push kind start end fade-in fade-out curve source) = pushMessage (isRelative kind) (newEvent start (statedEnd kind start end) fade-in fade-out curve source k)
+messageOf k (push kind start end fade-in fade-out curve source gain) = pushMessage (isRelative kind) (newEvent start (statedEnd kind start end) fade-in fade-out curve source gain k)
 messageOf k (edit kind n end fade-out) = editMessage (endRelative kind) (record { 0 = n }) (record { «end_time» = end; «fade_out» = fade-out })
 messageOf k reset = Reset
 
@@ -58,8 +58,8 @@ shown-edit false k d = refl
 
 pub messages-shown : (k : ℕ) (q : List Plain.Message) → map shown (messagesFrom k q) ≡ sentFrom k q
 messages-shown k [] = refl
-messages-shown k (push kind start end fade-in fade-out curve source ∷ q) =
-    let e = newEvent start (statedEnd kind start end) fade-in fade-out curve source k in
+messages-shown k (push kind start end fade-in fade-out curve source gain ∷ q) =
+    let e = newEvent start (statedEnd kind start end) fade-in fade-out curve source gain k in
     let n : k + 1 ≡ suc k = omega arith in
     ap (λ (x : Sent). x ∷ map shown (messagesFrom (k + 1) q)) (shown-push (isRelative kind) e)
     ∙ ap (λ (l : List Sent). event (isRelative kind) e ∷ l) (ap (λ (j : ℕ). map shown (messagesFrom j q)) n ∙ messages-shown (suc k) q)
@@ -94,14 +94,14 @@ edit-kind true k d = refl
 edit-kind false k d = refl
 
 push-counts : (k : ℕ) (m : Plain.Message) → counted (messageOf k m) 1 ≡ pushesIn (m ∷ [])
-push-counts k (push kind start end fade-in fade-out curve source) =
-    ap (λ (n : ℕ). cond (eqb n 1) 1 0) (push-kind (isRelative kind) (newEvent start (statedEnd kind start end) fade-in fade-out curve source k))
+push-counts k (push kind start end fade-in fade-out curve source gain) =
+    ap (λ (n : ℕ). cond (eqb n 1) 1 0) (push-kind (isRelative kind) (newEvent start (statedEnd kind start end) fade-in fade-out curve source gain k))
 push-counts k (edit kind n end fade-out) = ap (λ (n : ℕ). cond (eqb n 1) 1 0) (edit-kind (endRelative kind) (record { 0 = n }) (record { «end_time» = end; «fade_out» = fade-out }))
 push-counts k reset = refl
 
 edit-counts : (k : ℕ) (m : Plain.Message) → counted (messageOf k m) 2 ≡ editsIn (m ∷ [])
-edit-counts k (push kind start end fade-in fade-out curve source) =
-    ap (λ (n : ℕ). cond (eqb n 2) 1 0) (push-kind (isRelative kind) (newEvent start (statedEnd kind start end) fade-in fade-out curve source k))
+edit-counts k (push kind start end fade-in fade-out curve source gain) =
+    ap (λ (n : ℕ). cond (eqb n 2) 1 0) (push-kind (isRelative kind) (newEvent start (statedEnd kind start end) fade-in fade-out curve source gain k))
 edit-counts k (edit kind n end fade-out) = ap (λ (n : ℕ). cond (eqb n 2) 1 0) (edit-kind (endRelative kind) (record { 0 = n }) (record { «end_time» = end; «fade_out» = fade-out }))
 edit-counts k reset = refl
 

@@ -31,7 +31,7 @@ start channels mode first f =
     (r .1, opened-related (created channels mode first .sequencer) (create channels mode first .ledger) (r .0))
 
 pub keep : (d : SequencerBackend) (D : Desk) (c : Call) → DeskLawful D → DeskRelated d D → Keeps (deskCall d c) (step D c)
-keep d D (front (push kind start end fade-in fade-out curve source)) w r = keep-push d D w r kind start end curve fade-in fade-out source
+keep d D (front (push kind start end fade-in fade-out curve source gain)) w r = keep-push d D w r kind start end curve fade-in fade-out source gain
 keep d D (front (edit kind k end fade-out)) w r = keep-edit d D w r kind k end fade-out
 keep d D (front reset) w r = keep-reset d D w r
 keep d D (back (tick pool out)) w r = keep-tick d D w r pool out

@@ -1,4 +1,4 @@
-// Plays a desk script of at most 65,536 bytes from standard input (oracle/README.md: a tape whose kinds 01 to 05 are calls of the front and 06 to 09 of the back, with 10 for the front's reset and 11 to 13 for what is lent).
+// Plays a desk script of at most 65,536 bytes from standard input (oracle/README.md: a tape whose kinds 01 to 05 and 0A to 0C are calls of the front and 06 to 09 of the back, with 10 for the front's reset and 11 to 13 for what is lent).
 // Each record prints its lines as on a tape, then its answer and the whole state of the back and the queues (crate state_listing).
 ghost use Prim.Native.Nat.{_≤_};
 use realseq::Answer;
@@ -121,10 +121,11 @@ fn push(d: SequencerBackend, kind: u8, p: PushRecord) -> Outcome {
     let fade_in = p.fade_in;
     let fade_out = p.fade_out;
     let source = p.source;
+    let gain = p.gain;
     match kind {
-        1 => d.push(start, end, ease, fade_in, fade_out, source),
-        2 => d.push_relative(start, end, ease, fade_in, fade_out, source),
-        _ => d.push_duration(start, end, ease, fade_in, fade_out, source),
+        1 => d.push(start, end, ease, fade_in, fade_out, source, gain),
+        2 => d.push_relative(start, end, ease, fade_in, fade_out, source, gain),
+        _ => d.push_duration(start, end, ease, fade_in, fade_out, source, gain),
     }
 }
 

@@ -80,6 +80,7 @@ some-event start k = record {
   «fade_in» = halfᶠ;
   «fade_out» = quarter;
   unit = record { source = Ramp zeroᶠ oneᶠ; value = 2ᶠ; place = 0 };
+  gain = 3ᶠ;
   id = record { 0 = k };
 }
 
@@ -108,6 +109,7 @@ pub edited-event : editedBy (record { «end_time» = 2ᶠ; «fade_out» = oneᶠ
   «fade_in» = halfᶠ;
   «fade_out» = oneᶠ;
   unit = record { source = Ramp zeroᶠ oneᶠ; value = 2ᶠ; place = 0 };
+  gain = 3ᶠ;
   id = record { 0 = 7 };
 }
 edited-event = refl
@@ -120,6 +122,7 @@ pub rewound-event : rewound (some-event oneᶠ 7) ≡ record {
   «fade_in» = halfᶠ;
   «fade_out» = quarter;
   unit = record { source = Ramp zeroᶠ oneᶠ; value = zeroᶠ; place = 0 };
+  gain = 3ᶠ;
   id = record { 0 = 7 };
 }
 rewound-event = refl

@@ -22,14 +22,15 @@ abbrev pub earlier : Event → Event → Bool
 earlier a b = sooner (a .«start_time») (numberOf a) (b .«start_time») (numberOf b)
 
 -- an event of number k, its source at its beginning
-abbrev pub newEvent : (start end fade-in fade-out : Float) → Fade → Source → (number : ℕ) → Event
-newEvent start end fade-in fade-out curve source k = record {
+abbrev pub newEvent : (start end fade-in fade-out : Float) → Fade → Source → (gain : Float) → (number : ℕ) → Event
+newEvent start end fade-in fade-out curve source gain k = record {
   «start_time» = start;
   «end_time» = end;
   «fade_in» = fade-in;
   «fade_out» = fade-out;
   «fade_ease» = curve;
   unit = atStart source;
+  gain = gain;
   id = record { 0 = k };
 }
 
@@ -42,6 +43,7 @@ editedBy d e = record {
   «fade_out» = d .«fade_out»;
   «fade_ease» = e .«fade_ease»;
   unit = e .unit;
+  gain = e .gain;
   id = e .id;
 }
 
@@ -54,6 +56,7 @@ withUnit u e = record {
   «fade_out» = e .«fade_out»;
   «fade_ease» = e .«fade_ease»;
   unit = u;
+  gain = e .gain;
   id = e .id;
 }
 
@@ -70,5 +73,6 @@ blank = record {
   «fade_out» = nan;
   «fade_ease» = Power;
   unit = record { source = Held nan; value = nan; place = 0 };
+  gain = nan;
   id = record { 0 = 0 };
 }

@@ -31,6 +31,7 @@ numbered k e = record {
   «fade_out» = e .«fade_out»;
   «fade_ease» = e .«fade_ease»;
   unit = e .unit;
+  gain = e .gain;
   id = record { 0 = k };
 }
 

@@ -123,7 +123,7 @@ impl Unit {
     }
 }
 
-// A scheduled source.
+// A scheduled source, and the level at which it plays.
 pub struct Event {
     pub start_time: f64,
     pub end_time: f64,
@@ -131,6 +131,7 @@ pub struct Event {
     pub fade_out: f64,
     pub fade_ease: Fade,
     pub unit: Unit,
+    pub gain: f32,
     pub id: EventId,
 }
 
@@ -155,9 +156,10 @@ impl Event {
         fade_out: f64,
         fade_ease: Fade,
         source: Source,
+        gain: f32,
         id: EventId,
     ) -> Event
-        ensures { λ r. ⌜ r ≡ newEvent «start_time» «end_time» «fade_in» «fade_out» «fade_ease» source (id .0) ⌝ }
+        ensures { λ r. ⌜ r ≡ newEvent «start_time» «end_time» «fade_in» «fade_out» «fade_ease» source gain (id .0) ⌝ }
     {
         Event {
             start_time: start_time,
@@ -166,6 +168,7 @@ impl Event {
             fade_out: fade_out,
             fade_ease: fade_ease,
             unit: Unit::new(source),
+            gain: gain,
             id: id,
         }
     }
@@ -194,6 +197,7 @@ impl Event {
             fade_out: self.fade_out,
             fade_ease: fade_ease,
             unit: unit,
+            gain: self.gain,
             id: id,
         }
     }

@@ -1,7 +1,7 @@
 -- Document 01, "Block samples": what the sounding events add to a block, and where their sources stand after it. A channel is a list of samples; one faded run serves every channel.
 use Prim.Native.Nat.{ℕ, zero, suc, _-_, min, max}
 use mathlib.Core.Bool.{Bool, true, false, _&&_, cond}
-use mathlib.Core.List.{List, [], _∷_, _++_}
+use mathlib.Core.List.{List, [], _∷_, _++_, map}
 use mathlib.Core.Option.{Option, none, some}
 use lib.Dec.{ltb}
 use lib.ListN.{length, take, drop}
@@ -83,9 +83,13 @@ runFadedOut b s z e l =
     (faded (e .«fade_ease») false (i - s) (z - s) (phaseAt b i bottom (e .«end_time»)) (phaseStep b (e .«fade_out»)) l)
     l
 
--- the source's z - s samples with both fades
+-- Paper 5: "Every event carries an f32 gain, multiplied onto the source's sample before the fades, by one rounding."
+abbrev pub gained : (gain : Float) → List Float → List Float
+gained g l = map (λ x. x ×ˢ g) l
+
+-- the source's z - s samples at the event's gain, with both fades
 abbrev pub fadedRun : (pool : List Float) → Span → (s z : ℕ) → Event → List Float
-fadedRun pool b s z e = runFadedOut b s z e (runFadedIn b s z e (given pool (e .unit) (z - s)))
+fadedRun pool b s z e = runFadedOut b s z e (runFadedIn b s z e (gained (e .gain) (given pool (e .unit) (z - s))))
 
 -- ---- One event. If z > s its run is added to the channel at s + k, the scratch holds the run, and the source has moved on by z - s.
 

@@ -26,7 +26,7 @@ endRelative absoluteEnd = false
 endRelative relativeEnd = true
 
 pub data Call : Type 0 where
-  push : PushKind → (start end fade-in fade-out : Float) → Fade → Source → Call
+  push : PushKind → (start end fade-in fade-out : Float) → Fade → Source → (gain : Float) → Call
   edit : EditKind → (number : ℕ) → (end fade-out : Float) → Call
   tick : (pool out : List Float) → Call
   block : (size : ℕ) → (pool out : List Float) → (scratch : Option (List Float)) → Call

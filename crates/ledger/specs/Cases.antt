@@ -30,7 +30,7 @@ atRate8 = run (rate (whole 8) ∷ []) (fresh 1 All 1) .ledger
 
 -- a push of held 1.0 with smooth fades
 abbrev pub held1 : (start end fade-in fade-out : Float) → Call
-held1 start end fade-in fade-out = push absolute start end fade-in fade-out Smooth (Held oneᶠ)
+held1 start end fade-in fade-out = push absolute start end fade-in fade-out Smooth (Held oneᶠ) oneᶠ
 
 -- a tick, and a block of n samples, of one channel
 abbrev pub one-tick : Call

@@ -37,12 +37,12 @@ unfolding ticksAt whole
 tick-fade-out = refl
 
 -- The power curve, both fades and a level of 3, at times that are no binary fractions.
-pub tick-fades : ticksAt (whole 10) 5 (push absolute zeroᶠ (decimal 4 1) (decimal 25 2) (decimal 15 2) Power (Held (fin false 3 (pos 0)))) ≡ 0 ∷ 0x3fe177c8 ∷ 0x40367ebd ∷ 0x40260dd6 ∷ 0 ∷ []
+pub tick-fades : ticksAt (whole 10) 5 (push absolute zeroᶠ (decimal 4 1) (decimal 25 2) (decimal 15 2) Power (Held (fin false 3 (pos 0))) oneᶠ) ≡ 0 ∷ 0x3fe177c8 ∷ 0x40367ebd ∷ 0x40260dd6 ∷ 0 ∷ []
 unfolding ticksAt whole decimal
 tick-fades = refl
 
 -- "that phase < 1", "phase > 0": at phase 1 in and phase 0 out nothing is multiplied; the power curve at 1 is 3F800001. At t = 0.5.
-pub tick-fade-edges : drop 4 (ticksAt (whole 8) 5 (push absolute zeroᶠ oneᶠ halfᶠ halfᶠ Power (Held oneᶠ))) ≡ 0x3f800000 ∷ []
+pub tick-fade-edges : drop 4 (ticksAt (whole 8) 5 (push absolute zeroᶠ oneᶠ halfᶠ halfᶠ Power (Held oneᶠ) oneᶠ)) ≡ 0x3f800000 ∷ []
 unfolding ticksAt whole
 tick-fade-edges = refl
 
@@ -53,7 +53,7 @@ tick-negative-fades = (refl, refl)
 
 -- "is multiplied by the curve .., then by the curve at 1 - phase": (0.12 × a) × b is not (0.12 × b) × a in f32; in a block likewise. The bits of the level are 3DF5C28F.
 abbrev twice-faded : Call
-twice-faded = push absolute zeroᶠ oneᶠ oneᶠ oneᶠ Smooth (Held (fin false 16_106_127 (negsuc 26)))
+twice-faded = push absolute zeroᶠ oneᶠ oneᶠ oneᶠ Smooth (Held (fin false 16_106_127 (negsuc 26))) oneᶠ
 
 pub fade-in-first : (ticksAt (whole 8) 3 twice-faded ≡ 0 ∷ 0x3af86d58 ∷ 0x3c3673d6 ∷ []) × (blockAt (whole 8) 8 twice-faded ≡ 0 ∷ 0x3af86d58 ∷ 0x3c3673d6 ∷ 0x3cc415da ∷ 0x3cf5c28f ∷ 0x3cc415da ∷ 0x3c3673d7 ∷ 0x3af86d57 ∷ [])
 unfolding ticksAt blockAt whole
@@ -105,7 +105,7 @@ fades-through-blocks = refl
 -- A ramp from the middle of a block on, power fades and no binary fractions: two blocks of 12 from t = 0.1 on, at rate 10.
 unfoldable pub anywhere : List Call → List ℕ
 unfolding repliesAt toBits whole decimal
-anywhere cs = bits (take 12 (lastOut (repliesAt (whole 10) (one-tick ∷ push absolute (fin false 1 (negsuc 1)) (decimal 193 2) (decimal 31 2) (decimal 77 2) Power (Ramp oneᶠ (fin false 5_033_165 (negsuc 23))) ∷ cs))))
+anywhere cs = bits (take 12 (lastOut (repliesAt (whole 10) (one-tick ∷ push absolute (fin false 1 (negsuc 1)) (decimal 193 2) (decimal 31 2) (decimal 77 2) Power (Ramp oneᶠ (fin false 5_033_165 (negsuc 23))) oneᶠ ∷ cs))))
 
 pub block-anywhere :
     (anywhere (blockOf 12 ∷ []) ≡ 0 ∷ 0 ∷ 0x3e8121fc ∷ 0x3f64e6c6 ∷ 0x3fc34c89 ∷ 0x3ff33332 ∷ 0x400ccccc ∷ 0x401fffff ∷ 0x40333332 ∷ 0x40466665 ∷ 0x40599998 ∷ 0x406c0073 ∷ [])
@@ -127,7 +127,7 @@ unfolding blockAt whole decimal
 fade-out-by-duration = refl
 
 -- The phase at place s is that of t + s × d, not of t + s / r nor of the start: 3 × 0.1 is above 0.3.
-pub phase-by-duration : take 5 (blockAt (whole 10) 8 (push absolute (decimal 3 1) +∞ (decimal 2 1) zeroᶠ Power (Held oneᶠ))) ≡ 0 ∷ 0 ∷ 0 ∷ 0x26000001 ∷ 0x3f34b4b5 ∷ []
+pub phase-by-duration : take 5 (blockAt (whole 10) 8 (push absolute (decimal 3 1) +∞ (decimal 2 1) zeroᶠ Power (Held oneᶠ) oneᶠ)) ≡ 0 ∷ 0 ∷ 0 ∷ 0x26000001 ∷ 0x3f34b4b5 ∷ []
 unfolding blockAt whole decimal
 phase-by-duration = refl
 

@@ -57,14 +57,15 @@ fresh-ledger = (refl, refl, refl, refl, refl, refl, refl)
 
 -- ---- pushes
 
--- "An event holds start, end, both fades, the curve, its source and its number."
-pub pushed-event : ledgerOf (push absolute quarter (whole 2) halfᶠ oneᶠ Power (Ramp (whole 3) (whole 5)) ∷ []) .waiting ≡ record {
+-- "An event holds start, end, both fades, the curve, its source and its number"; Paper 5: "Every event carries an f32 gain".
+pub pushed-event : ledgerOf (push absolute quarter (whole 2) halfᶠ oneᶠ Power (Ramp (whole 3) (whole 5)) (whole 7) ∷ []) .waiting ≡ record {
   «start_time» = quarter;
   «end_time» = fin false 1 (pos 1);
   «fade_ease» = Power;
   «fade_in» = halfᶠ;
   «fade_out» = oneᶠ;
   unit = record { source = Ramp (fin false 3 (pos 0)) (fin false 5 (pos 0)); value = fin false 3 (pos 0); place = 0 };
+  gain = fin false 7 (pos 0);
   id = record { 0 = 1 };
 } ∷ []
 unfolding ledgerOf whole
@@ -72,14 +73,14 @@ pushed-event = refl
 
 -- "Relative adds t to start and end .. By duration: end = start + duration." At t = 0.125, a start of 0.25 and an end or duration of 1.
 pub pushed-times :
-    let l : Ledger = ledgerOf (one-tick ∷ push relative quarter oneᶠ zeroᶠ zeroᶠ Smooth (Held oneᶠ) ∷ push byDuration quarter oneᶠ zeroᶠ zeroᶠ Smooth (Held oneᶠ) ∷ []) in
+    let l : Ledger = ledgerOf (one-tick ∷ push relative quarter oneᶠ zeroᶠ zeroᶠ Smooth (Held oneᶠ) oneᶠ ∷ push byDuration quarter oneᶠ zeroᶠ zeroᶠ Smooth (Held oneᶠ) oneᶠ ∷ []) in
     (startsOf (l .waiting) ≡ quarter ∷ fin false 3 (negsuc 2) ∷ []) × (endsOf (l .waiting) ≡ fin false 5 (negsuc 1) ∷ fin false 9 (negsuc 2) ∷ [])
 unfolding ledgerOf
 pushed-times = (refl, refl)
 
 -- "start < θ appends to S ..; otherwise into W": θ is 0.0625 and t 0.125. A relative start is judged with t added.
 pub pushed-before-threshold :
-    let l : Ledger = ledgerOf (plain zeroᶠ oneᶠ ∷ one-tick ∷ plain zeroᶠ oneᶠ ∷ plain 16th oneᶠ ∷ push relative zeroᶠ oneᶠ zeroᶠ zeroᶠ Smooth (Held oneᶠ) ∷ []) in
+    let l : Ledger = ledgerOf (plain zeroᶠ oneᶠ ∷ one-tick ∷ plain zeroᶠ oneᶠ ∷ plain 16th oneᶠ ∷ push relative zeroᶠ oneᶠ zeroᶠ zeroᶠ Smooth (Held oneᶠ) oneᶠ ∷ []) in
     (numbers (l .sounding) ≡ 1 ∷ 2 ∷ []) × (numbers (l .waiting) ≡ 3 ∷ 4 ∷ []) × (l .next ≡ 5)
 unfolding ledgerOf
 pushed-before-threshold = (refl, refl, refl)
@@ -149,8 +150,8 @@ let-go-in-order = (refl, refl, refl, refl, refl)
 
 abbrev one-of-each : List Call
 one-of-each =
-    push absolute zeroᶠ 16th zeroᶠ zeroᶠ Smooth (Ramp zeroᶠ oneᶠ) ∷ push absolute (whole 9) +∞ zeroᶠ zeroᶠ Smooth (Ramp zeroᶠ oneᶠ)
-    ∷ push absolute zeroᶠ oneᶠ zeroᶠ zeroᶠ Smooth (Ramp zeroᶠ oneᶠ) ∷ edit absoluteEnd 7 oneᶠ zeroᶠ ∷ one-tick ∷ []
+    push absolute zeroᶠ 16th zeroᶠ zeroᶠ Smooth (Ramp zeroᶠ oneᶠ) oneᶠ ∷ push absolute (whole 9) +∞ zeroᶠ zeroᶠ Smooth (Ramp zeroᶠ oneᶠ) oneᶠ
+    ∷ push absolute zeroᶠ oneᶠ zeroᶠ zeroᶠ Smooth (Ramp zeroᶠ oneᶠ) oneᶠ ∷ edit absoluteEnd 7 oneᶠ zeroᶠ ∷ one-tick ∷ []
 
 -- "Rate: if different, r and d change, everything goes to W, θ = -infinity; t, E and source places remain."
 pub rate-changes :

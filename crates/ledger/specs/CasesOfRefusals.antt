@@ -33,10 +33,10 @@ answersTo cs = answersOf (repliesOf cs)
 
 -- a push of each kind without fades, and one with a source
 abbrev pushOf : PushKind → (start end : Float) → Call
-pushOf kind start end = push kind start end zeroᶠ zeroᶠ Smooth (Held oneᶠ)
+pushOf kind start end = push kind start end zeroᶠ zeroᶠ Smooth (Held oneᶠ) oneᶠ
 
 abbrev playing : Source → Call
-playing source = push absolute zeroᶠ oneᶠ zeroᶠ zeroᶠ Smooth source
+playing source = push absolute zeroᶠ oneᶠ zeroᶠ zeroᶠ Smooth source oneᶠ
 
 -- ---- 1. "Channels are not 1 to 8, or the first number is 0"; "a refused creation hands back an empty one-channel engine, mode All, first number 1".
 
@@ -81,7 +81,7 @@ unfolding answersTo neg
 refusal-3-fades = refl
 
 -- ---- 4. "A push has a fade above end - start, before the clock is added": by duration the end is start + duration. At t = 0.125.
-pub refusal-4 : answersTo (one-tick ∷ push relative oneᶠ (whole 2) oneᶠ oneᶠ Smooth (Held oneᶠ) ∷ push relative oneᶠ (whole 2) (whole 2) zeroᶠ Smooth (Held oneᶠ) ∷ push byDuration oneᶠ (whole 2) (whole 2) (whole 2) Smooth (Held oneᶠ) ∷ push byDuration oneᶠ (whole 2) zeroᶠ (whole 3) Smooth (Held oneᶠ) ∷ [])
+pub refusal-4 : answersTo (one-tick ∷ push relative oneᶠ (whole 2) oneᶠ oneᶠ Smooth (Held oneᶠ) oneᶠ ∷ push relative oneᶠ (whole 2) (whole 2) zeroᶠ Smooth (Held oneᶠ) oneᶠ ∷ push byDuration oneᶠ (whole 2) (whole 2) (whole 2) Smooth (Held oneᶠ) oneᶠ ∷ push byDuration oneᶠ (whole 2) zeroᶠ (whole 3) Smooth (Held oneᶠ) oneᶠ ∷ [])
     ≡ done ∷ number 1 ∷ refused 4 ∷ number 2 ∷ refused 4 ∷ []
 unfolding answersTo whole
 refusal-4 = refl
@@ -107,7 +107,7 @@ unfolding run fresh
 refusal-7 = refl
 
 -- Of 3 to 7 the first: one push that breaks 3, 4 and 5, one that breaks 4 and 5; with 256 held one that breaks 5; and when the last number is given too.
-pub pushes-in-checking-order : answersTo (push absolute zeroᶠ oneᶠ above zeroᶠ Smooth (Held nan) ∷ push absolute zeroᶠ oneᶠ (whole 2) zeroᶠ Smooth (Held nan) ∷ []) ≡ refused 3 ∷ refused 4 ∷ []
+pub pushes-in-checking-order : answersTo (push absolute zeroᶠ oneᶠ above zeroᶠ Smooth (Held nan) oneᶠ ∷ push absolute zeroᶠ oneᶠ (whole 2) zeroᶠ Smooth (Held nan) oneᶠ ∷ []) ≡ refused 3 ∷ refused 4 ∷ []
 unfolding answersTo whole
 pushes-in-checking-order = refl
 

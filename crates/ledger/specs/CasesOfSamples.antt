@@ -23,7 +23,7 @@ abbrev quarter : Float
 quarter = fin false 1 (negsuc 1)
 
 abbrev playing : (start end : Float) → Source → Call
-playing start end source = push absolute start end zeroᶠ zeroᶠ Smooth source
+playing start end source = push absolute start end zeroᶠ zeroᶠ Smooth source oneᶠ
 
 abbrev level : Float → Call
 level x = playing zeroᶠ oneᶠ (Held x)

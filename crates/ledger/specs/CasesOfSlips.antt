@@ -72,7 +72,7 @@ starting-takes-edit = (refl, refl)
 
 -- Reset in mode All leaves E and rewinds the sources; a rate change leaves the source places.
 pub reset-leaves-edits :
-    let a : List Call = push absolute zeroᶠ oneᶠ zeroᶠ zeroᶠ Smooth (Ramp zeroᶠ oneᶠ) ∷ edit absoluteEnd 9 oneᶠ zeroᶠ ∷ one-tick ∷ [] in
+    let a : List Call = push absolute zeroᶠ oneᶠ zeroᶠ zeroᶠ Smooth (Ramp zeroᶠ oneᶠ) oneᶠ ∷ edit absoluteEnd 9 oneᶠ zeroᶠ ∷ one-tick ∷ [] in
     (length (ledgerOf (a ++ (reset ∷ [])) .edits) ≡ 1) × (valuesOf (ledgerOf (a ++ (reset ∷ [])) .waiting) ≡ zeroᶠ ∷ []) × (valuesOf (ledgerOf (a ++ (rate oneᶠ ∷ [])) .waiting) ≡ oneᶠ ∷ [])
 unfolding ledgerOf
 reset-leaves-edits = (refl, refl, refl)

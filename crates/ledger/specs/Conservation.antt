@@ -57,7 +57,7 @@ module _ (w : Float → ℕ → ℕ) where
 
 -- a refusal gives out no number
 pub refused-none : (c : Call) (k : ℕ) → acceptedOf (refusedReply k c .answer) ≡ []
-refused-none (push kind start end fade-in fade-out curve source) k = refl
+refused-none (push kind start end fade-in fade-out curve source gain) k = refl
 refused-none (edit kind n end fade-out) k = refl
 refused-none (tick pool out) k = refl
 refused-none (block n pool out scratch) k = refl
@@ -102,8 +102,8 @@ module _ (u : ℕ → ℕ) where
 
   pub accept-adds : (l : Ledger) (c : Call) → Adds l (accept l c)
   unfolding accept
-  accept-adds l (push kind start end fade-in fade-out curve source) =
-      omega (arith, heldSum-enter byNumber l (newEvent (pushedTime kind (l .clock) start) (pushedTime kind (l .clock) (statedEnd kind start end)) fade-in fade-out curve source (l .next)))
+  accept-adds l (push kind start end fade-in fade-out curve source gain) =
+      omega (arith, heldSum-enter byNumber l (newEvent (pushedTime kind (l .clock) start) (pushedTime kind (l .clock) (statedEnd kind start end)) fade-in fade-out curve source gain (l .next)))
   accept-adds l (edit kind k end fade-out) =
       change-adds l k (record { «end_time» = editEnd kind (l .clock) end; «fade_out» = fade-out }) (has k (l .sounding)) (editEnd kind (l .clock) end <ᶠ l .threshold)
   accept-adds l (tick pool out) =

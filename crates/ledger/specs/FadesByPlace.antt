@@ -8,14 +8,14 @@ use native.Mathlib.Omega.{arith}
 use borrow.Author.Tests.{ltb-true, ltb-false, leb-true, leb-false, lt-ltb, le-ltb, le-leb, lt-leb}
 use lib.Dec.{ltb, leb}
 use lib.Ieee.{Float}
-use lib.ListN.{length, take, drop, getD, length-drop, length-append, take-append-drop}
+use lib.ListN.{length, take, drop, getD, length-drop, length-append, length-map, take-append-drop, List·getD-map}
 use Rattle.floats.specs.Arithmetic.{_+ᵈ_, _-ᵈ_, _+ˢ_, _-ˢ_, _×ˢ_, _<ᶠ_, zeroᶠ, oneᶠ}
 use Rattle.event.specs.declared.Event.{Event}
 use Rattle.event.specs.declared.Fade.{Fade}
 use Rattle.event.specs.Fades.{curve}
-use Rattle.event.specs.Runs.{steps, length-made}
+use Rattle.event.specs.Runs.{steps, length-made, getD-in}
 use Rattle.event.specs.Sources.{given, sampleOf, advanced}
-use Rattle.ledger.specs.BlockSamples.{Span, fadedAll, faded, fadeInPlace, fadeOutPlace, phaseAt, phaseStep, runFadedIn, runFadedOut, fadedRun}
+use Rattle.ledger.specs.BlockSamples.{Span, fadedAll, faded, fadeInPlace, fadeOutPlace, phaseAt, phaseStep, gained, runFadedIn, runFadedOut, fadedRun}
 
 -- ---- what the fades make of a sample x at block place p, of a clip that begins at block place s and ends before z
 
@@ -187,10 +187,13 @@ length-faded-in b s z e l = go (zeroᶠ <ᶠ e .«fade_in» && b .clock <ᶠ (e 
     go true = length-faded (e .«fade_ease») true 0 (fadeInPlace b z e - s) _ _ l
     go false = refl
 
--- The sample at scratch place k, which is block place s + k.
+-- The sample at scratch place k, which is block place s + k: the source's times the gain (Paper 5), then the fades.
 pub fades-by-place : (pool : List Float) (b : Span) (s z : ℕ) (e : Event) (k : ℕ) → s + k < z
-    → getD (fadedRun pool b s z e) k zeroᶠ ≡ fadedOutAt b s (s + k) e (fadedInAt b s z (s + k) e (getD (given pool (e .unit) (z - s)) k zeroᶠ))
+    → getD (fadedRun pool b s z e) k zeroᶠ ≡ fadedOutAt b s (s + k) e (fadedInAt b s z (s + k) e (getD (given pool (e .unit) (z - s)) k zeroᶠ ×ˢ e .gain))
 fades-by-place pool b s z e k h =
-    let xs : List Float = given pool (e .unit) (z - s) in
-    let n : k < length xs = omega (arith, length-made (sampleOf pool) advanced (e .unit) (z - s)) in
-    fade-out-by-place b s z e (runFadedIn b s z e xs) k (omega (arith, length-faded-in b s z e xs)) h ∙ ap (fadedOutAt b s (s + k) e) (fade-in-by-place b s z e xs k n)
+    let us : List Float = given pool (e .unit) (z - s) in
+    let at : Float → Float = λ x. x ×ˢ e .gain in
+    let xs : List Float = gained (e .gain) us in
+    let n : k < length xs = omega (arith, length-map us at, length-made (sampleOf pool) advanced (e .unit) (z - s)) in
+    fade-out-by-place b s z e (runFadedIn b s z e xs) k (omega (arith, length-faded-in b s z e xs)) h
+    ∙ ap (fadedOutAt b s (s + k) e) (fade-in-by-place b s z e xs k n ∙ ap (fadedInAt b s z (s + k) e) (getD-in xs k zeroᶠ (at zeroᶠ) n ∙ List·getD-map at us k zeroᶠ))

@@ -13,6 +13,7 @@ pub mod CasesOfRefusals
 pub mod CasesOfSamples
 pub mod CasesOfFades
 pub mod FadesByPlace
+pub mod CasesOfGains
 pub mod Numbers
 pub mod FloatOrder
 pub mod NotNan
@@ -27,4 +28,6 @@ pub mod Lawful
 pub mod Claim
 pub mod ClaimByRelation
 pub mod LedgerMeets
+pub mod WithoutGain
+pub mod LedgerWithoutGain
 pub mod WrongEngines

@@ -155,16 +155,16 @@ restart-limits l None g = record { events = omega arith; edits = omega arith; on
 
 accept-limits : (l : Ledger) (c : Call) → AllPass (checks l c) → Limits l → Limits (accept l c .ledger)
 unfolding accept checks pushChecks editChecks
-accept-limits l (push kind start end fade-in fade-out curve source) h g = record {
+accept-limits l (push kind start end fade-in fade-out curve source gain) h g = record {
   events = omega (
     arith,
-    heldSum-enter one l (newEvent (pushedTime kind (l .clock) start) (pushedTime kind (l .clock) (statedEnd kind start end)) fade-in fade-out curve source (l .next)),
+    heldSum-enter one l (newEvent (pushedTime kind (l .clock) start) (pushedTime kind (l .clock) (statedEnd kind start end)) fade-in fade-out curve source gain (l .next)),
     held-is l,
-    nleb→lt 256 (held l) (h .1 .1 .1 .0),
+    nleb→lt 256 (held l) (h .1 .1 .1 .1 .0),
   );
   edits = g .edits;
   once = g .once;
-  next = omega (arith, nleb→lt (2 ^ 64) (l .next) (h .1 .1 .1 .1 .0));
+  next = omega (arith, nleb→lt (2 ^ 64) (l .next) (h .1 .1 .1 .1 .1 .0));
 }
 accept-limits l (edit kind k end fade-out) h g =
     change-limits l k (record { «end_time» = editEnd kind (l .clock) end; «fade_out» = fade-out }) (has k (l .sounding)) (editEnd kind (l .clock) end <ᶠ l .threshold) (h .1 .0) g

@@ -103,8 +103,8 @@ restart-order l None g = record { sorted = tt; on-time = refl; no-nan = refl; cl
 
 accept-order : (l : Ledger) (c : Call) → AllPass (checks l c) → InOrder l → InOrder (accept l c .ledger)
 unfolding accept checks pushChecks editChecks
-accept-order l (push kind start end fade-in fade-out curve source) h g =
-    enter-order l (newEvent (pushedTime kind (l .clock) start) (pushedTime kind (l .clock) (statedEnd kind start end)) fade-in fade-out curve source (l .next))
+accept-order l (push kind start end fade-in fade-out curve source gain) h g =
+    enter-order l (newEvent (pushedTime kind (l .clock) start) (pushedTime kind (l .clock) (statedEnd kind start end)) fade-in fade-out curve source gain (l .next))
     (pushedTime-not-nan kind (l .clock) start (le-not-nan (l .clock) billion (g .clocked))
     (first-of-four (within start) (withinEnd end) (within fade-in) (within fade-out)
     (not-not (within start && withinEnd end && within fade-in && within fade-out) (h .0))))

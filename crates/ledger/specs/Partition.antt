@@ -52,7 +52,7 @@ restart-next l None = refl
 
 accept-numbered : (l : Ledger) (c : Call) → Numbered l (accept l c)
 unfolding accept
-accept-numbered l (push kind start end fade-in fade-out curve source) = issued refl refl
+accept-numbered l (push kind start end fade-in fade-out curve source gain) = issued refl refl
 accept-numbered l (edit kind k end fade-out) =
     change-numbered l k (record { «end_time» = editEnd kind (l .clock) end; «fade_out» = fade-out }) (has k (l .sounding)) (editEnd kind (l .clock) end <ᶠ l .threshold)
 accept-numbered l (tick pool out) = same refl refl

@@ -82,19 +82,20 @@ lengthOr n (some l) = length l
 -- ---- the checks of each call, in order
 
 -- 3: a pushed time or fade is NaN or beyond the limit. 4: a fade above end - start, before the clock is added. 5: a held level, ramp value or step is not finite.
--- 6: 256 events are held. 7: number 2 ^ 64 - 1 has been given.
-abbrev pub pushChecksAt : (held next : ℕ) → PushKind → (start end fade-in fade-out : Float) → Source → List Check
-pushChecksAt held next kind start end fade-in fade-out source =
+-- Paper 5: "A gain that is not finite is refused as 18, directly after 5." 6: 256 events are held. 7: number 2 ^ 64 - 1 has been given.
+abbrev pub pushChecksAt : (held next : ℕ) → PushKind → (start end fade-in fade-out : Float) → Source → (gain : Float) → List Check
+pushChecksAt held next kind start end fade-in fade-out source gain =
     let lasts = statedEnd kind start end -ᵈ start in
     refuses 3 (not (within start && withinEnd end && within fade-in && within fade-out))
     ∷ refuses 4 (lasts <ᶠ fade-in || lasts <ᶠ fade-out)
     ∷ refuses 5 (not (finiteSource source))
+    ∷ refuses 18 (not (finite gain))
     ∷ refuses 6 (leb 256 held)
     ∷ refuses 7 (leb (2 ^ 64) next) ∷ []
 
-unfoldable pub pushChecks : Ledger → PushKind → (start end fade-in fade-out : Float) → Source → List Check
+unfoldable pub pushChecks : Ledger → PushKind → (start end fade-in fade-out : Float) → Source → (gain : Float) → List Check
 unfolding withinEnd statedEnd sub lt
-pushChecks l kind start end fade-in fade-out source = pushChecksAt (held l) (l .next) kind start end fade-in fade-out source
+pushChecks l kind start end fade-in fade-out source gain = pushChecksAt (held l) (l .next) kind start end fade-in fade-out source gain
 
 -- 8: an edit's end or fade breaks 3's limits. 9: it must be stored, its number has none, and 256 are stored.
 unfoldable pub editChecks : Ledger → EditKind → (number : ℕ) → (end fade-out : Float) → List Check
@@ -108,7 +109,7 @@ editChecks l kind k end fade-out =
 -- 12: the clock after the step would exceed 1,000,000,000. 2: a rate is not from 1 to 1,000,000.
 unfoldable pub checks : Ledger → Call → List Check
 unfolding pushChecks editChecks tickEnd blockEnd le whole
-checks l (push kind start end fade-in fade-out curve source) = pushChecks l kind start end fade-in fade-out source
+checks l (push kind start end fade-in fade-out curve source gain) = pushChecks l kind start end fade-in fade-out source gain
 checks l (edit kind k end fade-out) = editChecks l kind k end fade-out
 checks l (tick pool out) =
     refuses 10 (not (eqb (length out) (l .channels)))

@@ -18,7 +18,7 @@ use Rattle.ledger.specs.Steps.{Outcome, change, accept, refusedReply, de
 -- ---- what is lent to a call to be written
 
 abbrev pub lentOut : Call → List Float
-lentOut (push kind start end fade-in fade-out curve source) = []
+lentOut (push kind start end fade-in fade-out curve source gain) = []
 lentOut (edit kind n end fade-out) = []
 lentOut (tick pool out) = out
 lentOut (block n pool out scratch) = out
@@ -26,7 +26,7 @@ lentOut (rate r) = []
 lentOut reset = []
 
 abbrev pub lentScratch : Call → Option (List Float)
-lentScratch (push kind start end fade-in fade-out curve source) = none
+lentScratch (push kind start end fade-in fade-out curve source gain) = none
 lentScratch (edit kind n end fade-out) = none
 lentScratch (tick pool out) = none
 lentScratch (block n pool out scratch) = scratch
@@ -57,7 +57,7 @@ change-never-refuses l k d false false = refl
 
 pub accept-never-refuses : (l : Ledger) (c : Call) → refusedWith (accept l c .reply .answer) ≡ none
 unfolding accept
-accept-never-refuses l (push kind start end fade-in fade-out curve source) = refl
+accept-never-refuses l (push kind start end fade-in fade-out curve source gain) = refl
 accept-never-refuses l (edit kind k end fade-out) =
     change-never-refuses l k (record { «end_time» = editEnd kind (l .clock) end; «fade_out» = fade-out }) (has k (l .sounding)) (editEnd kind (l .clock) end <ᶠ l .threshold)
 accept-never-refuses l (tick pool out) = refl
@@ -66,7 +66,7 @@ accept-never-refuses l (rate r) = refl
 accept-never-refuses l reset = refl
 
 unchanged : (l : Ledger) (c : Call) (k : ℕ) → Unchanged l c (record { ledger = l; reply = refusedReply k c })
-unchanged l (push kind start end fade-in fade-out curve source) k = record { ledger = refl; out = refl; scratch = refl }
+unchanged l (push kind start end fade-in fade-out curve source gain) k = record { ledger = refl; out = refl; scratch = refl }
 unchanged l (edit kind n end fade-out) k = record { ledger = refl; out = refl; scratch = refl }
 unchanged l (tick pool out) k = record { ledger = refl; out = refl; scratch = refl }
 unchanged l (block n pool out scratch) k = record { ledger = refl; out = refl; scratch = refl }

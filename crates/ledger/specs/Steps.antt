@@ -144,10 +144,10 @@ restart l None = withLists l [] [] [] [] zeroᶠ -∞ (l .gone ++ (numbers (l .f
 
 unfoldable pub accept : Ledger → Call → Outcome
 unfolding statedEnd pushedTime editEnd tickEnd blockEnd enter change advance Tick.computes Block.computes setRate restart eq
-accept l (push kind start end fade-in fade-out curve source) =
+accept l (push kind start end fade-in fade-out curve source gain) =
     let t = l .clock in
     record {
-      ledger = enter l (newEvent (pushedTime kind t start) (pushedTime kind t (statedEnd kind start end)) fade-in fade-out curve source (l .next));
+      ledger = enter l (newEvent (pushedTime kind t start) (pushedTime kind t (statedEnd kind start end)) fade-in fade-out curve source gain (l .next));
       reply = answers (number (l .next));
     }
 accept l (edit kind k end fade-out) =
@@ -178,7 +178,7 @@ accept l reset = record { ledger = restart l (l .mode); reply = answers done }
 -- ---- a refused call leaves the ledger and all that is lent unchanged
 
 abbrev pub refusedReply : (k : ℕ) → Call → Reply
-refusedReply k (push kind start end fade-in fade-out curve source) = answers (refused k)
+refusedReply k (push kind start end fade-in fade-out curve source gain) = answers (refused k)
 refusedReply k (edit kind n end fade-out) = answers (refused k)
 refusedReply k (tick pool out) = record { answer = refused k; out = out; scratch = none; filled = 64 }
 refusedReply k (block n pool out scratch) = record { answer = refused k; out = out; scratch = scratch; filled = 64 }

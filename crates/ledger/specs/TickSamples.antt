@@ -22,8 +22,9 @@ fadedOut t e x =
     let phase = narrowed (delerped (e .«end_time» -ᵈ e .«fade_out») (e .«end_time») t) in
     cond (zeroᶠ <ᶠ e .«fade_out» && zeroᶠ <ᶠ phase) (x ×ˢ curve (e .«fade_ease») (oneᶠ -ˢ phase)) x
 
+-- Paper 5: "Every event carries an f32 gain, multiplied onto the source's sample before the fades, by one rounding."
 abbrev pub tickSample : (pool : List Float) → (t : Float) → Event → Float
-tickSample pool t e = fadedOut t e (fadedIn t e (sampleOf pool (e .unit)))
+tickSample pool t e = fadedOut t e (fadedIn t e (sampleOf pool (e .unit) ×ˢ e .gain))
 
 abbrev pub afterTick : Event → Event
 afterTick e = withUnit (advanced (e .unit)) e

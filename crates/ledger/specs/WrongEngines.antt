@@ -21,7 +21,7 @@ use Rattle.ledger.specs.LedgerMeets.{viewOf, pairOf, engineOf}
 -- ---- calls that show the difference
 
 abbrev clip : Call
-clip = push absolute zeroᶠ oneᶠ zeroᶠ zeroᶠ Smooth (Held oneᶠ)
+clip = push absolute zeroᶠ oneᶠ zeroᶠ zeroᶠ Smooth (Held oneᶠ) oneᶠ
 
 abbrev one-tick : Call
 one-tick = tick [] (zeroᶠ ∷ [])
@@ -37,7 +37,7 @@ abbrev one-block : (lends : Bool) → Call
 one-block b = block 8 [] zeros (scratch b)
 
 abbrev isPush : Call → Bool
-isPush (push k start end fade-in fade-out curve source) = true
+isPush (push k start end fade-in fade-out curve source gain) = true
 isPush (edit k n end fade-out) = false
 isPush (tick pool out) = false
 isPush (block n pool out scratch) = false
@@ -45,7 +45,7 @@ isPush (rate x) = false
 isPush reset = false
 
 abbrev isTickOrBlock : Call → Bool
-isTickOrBlock (push k start end fade-in fade-out curve source) = false
+isTickOrBlock (push k start end fade-in fade-out curve source gain) = false
 isTickOrBlock (edit k n end fade-out) = false
 isTickOrBlock (tick pool out) = true
 isTickOrBlock (block n pool out scratch) = true
@@ -123,7 +123,7 @@ again first l (block n pool out scratch) =
       | none ↦ ((o .ledger, some (o .reply .out)), o .reply)
       | some m ↦ ((o .ledger, some m), record { answer = o .reply .answer; out = m; scratch = o .reply .scratch; filled = o .reply .filled })
     ]
-again first l (push k start end fade-in fade-out curve source) = let o = step l (push k start end fade-in fade-out curve source) in ((o .ledger, first), o .reply)
+again first l (push k start end fade-in fade-out curve source gain) = let o = step l (push k start end fade-in fade-out curve source gain) in ((o .ledger, first), o .reply)
 again first l (edit k n end fade-out) = let o = step l (edit k n end fade-out) in ((o .ledger, first), o .reply)
 again first l (tick pool out) = let o = step l (tick pool out) in ((o .ledger, first), o .reply)
 again first l (rate x) = let o = step l (rate x) in ((o .ledger, first), o .reply)

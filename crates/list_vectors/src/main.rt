@@ -48,6 +48,7 @@ fn event_of(code: u64, id: u64) -> Event {
             value: 0.0,
             place: 3,
         },
+        gain: 0.75,
         id: EventId(id),
     }
 }

@@ -57,7 +57,8 @@ pub fn tick_sample(event: Event, time: f64, pool: &[f32]) -> f32
     ensures { λ r. ⌜ r ≡ tickSample (now (pool .entry)) time event ⌝ }
 {
     let unit = event.unit;
-    let x = unit.sample(pool);
+    let gain = event.gain;
+    let x = unit.sample(pool) * gain;
     let y = tick_fade_in(event, time, x);
     tick_fade_out(event, time, y)
 }
@@ -193,7 +194,7 @@ pub fn fade_out(span: Span, start_index: usize, end_index: usize, event: Event, 
     }
 }
 
-// The event's z - s samples, as many as the row has, with both fades, are added to a channel from place s on.
+// The event's z - s samples, as many as the row has, at its gain and with both fades, are added to a channel from place s on.
 fn add_run(
     event: Event,
     span: Span,
@@ -208,6 +209,8 @@ fn add_run(
 {
     let unit = event.unit;
     let unit = runs::fill_run(row, unit, pool);
+    let gain = event.gain;
+    runs::apply_gain(row, gain);
     fade_in(span, s, z, event, row);
     fade_out(span, s, z, event, row);
     runs::add_at(channel, row, s);

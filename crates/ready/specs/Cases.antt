@@ -24,6 +24,7 @@ event t n = record {
   «fade_out» = t;
   «fade_ease» = Power;
   unit = record { source = Held t; value = t; place = 0 };
+  gain = t;
   id = record { 0 = n };
 }
 

@@ -81,10 +81,10 @@ fade-back Smooth = refl
 
 pub Event-discrete : Discrete Event
 Event-discrete =
-    coded {B = Float × (Float × (Float × (Float × (Fade × (Source × (Float × (ℕ × ℕ)))))))} (λ x. (x .«start_time», (x .«end_time», (x .«fade_in», (x .«fade_out», (x .«fade_ease», (x .unit .source, (x .unit .value, (x .unit .place, x .id .0)))))))))
-    (λ t. record { «start_time» = t .0; «end_time» = t .1 .0; «fade_in» = t .1 .1 .0; «fade_out» = t .1 .1 .1 .0; «fade_ease» = t .1 .1 .1 .1 .0; unit = record { source = t .1 .1 .1 .1 .1 .0; value = t .1 .1 .1 .1 .1 .1 .0; place = t .1 .1 .1 .1 .1 .1 .1 .0 }; id = record { 0 = t .1 .1 .1 .1 .1 .1 .1 .1 } })
+    coded {B = Float × (Float × (Float × (Float × (Fade × (Source × (Float × (ℕ × (Float × ℕ))))))))} (λ x. (x .«start_time», (x .«end_time», (x .«fade_in», (x .«fade_out», (x .«fade_ease», (x .unit .source, (x .unit .value, (x .unit .place, (x .gain, x .id .0))))))))))
+    (λ t. record { «start_time» = t .0; «end_time» = t .1 .0; «fade_in» = t .1 .1 .0; «fade_out» = t .1 .1 .1 .0; «fade_ease» = t .1 .1 .1 .1 .0; unit = record { source = t .1 .1 .1 .1 .1 .0; value = t .1 .1 .1 .1 .1 .1 .0; place = t .1 .1 .1 .1 .1 .1 .1 .0 }; gain = t .1 .1 .1 .1 .1 .1 .1 .1 .0; id = record { 0 = t .1 .1 .1 .1 .1 .1 .1 .1 .1 } })
     (λ x. refl)
-    (×-discrete Float-discrete (×-discrete Float-discrete (×-discrete Float-discrete (×-discrete Float-discrete (×-discrete (coded fade-code fade-of fade-back Bool-discrete) (×-discrete Source-discrete (×-discrete Float-discrete (×-discrete ℕ-discrete ℕ-discrete))))))))
+    (×-discrete Float-discrete (×-discrete Float-discrete (×-discrete Float-discrete (×-discrete Float-discrete (×-discrete (coded fade-code fade-of fade-back Bool-discrete) (×-discrete Source-discrete (×-discrete Float-discrete (×-discrete ℕ-discrete (×-discrete Float-discrete ℕ-discrete)))))))))
 
 pub Event-set : IsSet Event
 Event-set = hedberg Event-discrete

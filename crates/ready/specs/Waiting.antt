@@ -20,6 +20,7 @@ unused = record {
   «fade_out» = zeroᶠ;
   «fade_ease» = Power;
   unit = record { source = Held zeroᶠ; value = zeroᶠ; place = 0 };
+  gain = zeroᶠ;
   id = record { 0 = 0 };
 }
 

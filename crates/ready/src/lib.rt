@@ -29,6 +29,7 @@ impl Ready {
                 value: 0.0,
                 place: 0,
             },
+            gain: 0.0,
             id: EventId(0),
         };
         Ready {

@@ -38,30 +38,30 @@ orFull d k = cond (eqb k 0) (cond (leb 64 (d .messages .count)) 13 0) k
 -- ---- pushes
 
 -- 3 to 7, queued pushes counting for 6, then 13; `lasts` is end - start
-unfoldable pub pushRefused : SequencerBackend → (start end lasts fade-in fade-out : Float) → Source → ℕ
+unfoldable pub pushRefused : SequencerBackend → (start end lasts fade-in fade-out : Float) → Source → (gain : Float) → ℕ
 unfolding pushRefusal tallied
-pushRefused d start end lasts fade-in fade-out source =
+pushRefused d start end lasts fade-in fade-out source gain =
     let s = d .sequencer in
     let held = min (s .«ready_len» + (s .«active_len» + s .«past_len»)) 256 + tallied (d .messages) 1 in
-    orFull d (pushRefusal start end lasts fade-in fade-out source held (s .next))
+    orFull d (pushRefusal start end lasts fade-in fade-out source gain held (s .next))
 
 abbrev pub pushMessage : (relative : Bool) → Event → Message
 pushMessage true e = PushRelative e
 pushMessage false e = Push e
 
 -- an event from start to until; `end` is the end or the duration as given
-unfoldable pub sendsPush : SequencerBackend → (relative : Bool) → (start end until : Float) → Fade → (fade-in fade-out : Float) → Source → Outcome
+unfoldable pub sendsPush : SequencerBackend → (relative : Bool) → (start end until : Float) → Fade → (fade-in fade-out : Float) → Source → (gain : Float) → Outcome
 unfolding pushRefused queuedWith numbered
-sendsPush d relative start end until curve fade-in fade-out source =
-    let no = pushRefused d start end (until -ᵈ start) fade-in fade-out source in
+sendsPush d relative start end until curve fade-in fade-out source gain =
+    let no = pushRefused d start end (until -ᵈ start) fade-in fade-out source gain in
     let k = d .sequencer .next in
     cond (eqb no 0)
-    (record { backend = queuedWith (pushMessage relative (newEvent start until fade-in fade-out curve source k)) (numbered d); answer = said (number k) })
+    (record { backend = queuedWith (pushMessage relative (newEvent start until fade-in fade-out curve source gain k)) (numbered d); answer = said (number k) })
     (refuses d no)
 
-unfoldable pub pushes : PushKind → SequencerBackend → (start end : Float) → Fade → (fade-in fade-out : Float) → Source → Outcome
+unfoldable pub pushes : PushKind → SequencerBackend → (start end : Float) → Fade → (fade-in fade-out : Float) → Source → (gain : Float) → Outcome
 unfolding sendsPush statedEnd
-pushes kind d start end curve fade-in fade-out source = sendsPush d (isRelative kind) start end (statedEnd kind start end) curve fade-in fade-out source
+pushes kind d start end curve fade-in fade-out source gain = sendsPush d (isRelative kind) start end (statedEnd kind start end) curve fade-in fade-out source gain
 
 -- ---- edits
 

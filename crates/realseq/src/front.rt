@@ -39,7 +39,7 @@ impl SequencerBackend {
         self
     }
 
-    // 3 to 7, queued pushes counting for 6, then 13.
+    // 3 to 5, 18, 6 and 7, queued pushes counting for 6, then 13.
     fn push_refusal(
         self,
         start_time: f64,
@@ -48,8 +48,9 @@ impl SequencerBackend {
         fade_in: f64,
         fade_out: f64,
         source: Source,
+        gain: f32,
     ) -> u64
-        ensures { λ r. ⌜ r ≡ pushRefused self «start_time» «end_time» lasts «fade_in» «fade_out» source ⌝ }
+        ensures { λ r. ⌜ r ≡ pushRefused self «start_time» «end_time» lasts «fade_in» «fade_out» source gain ⌝ }
     {
         let s = self.sequencer;
         let q = self.messages;
@@ -61,6 +62,7 @@ impl SequencerBackend {
             fade_in,
             fade_out,
             source,
+            gain,
             n,
             s.next,
         );
@@ -84,8 +86,9 @@ impl SequencerBackend {
         fade_in: f64,
         fade_out: f64,
         source: Source,
+        gain: f32,
     ) -> Outcome
-        ensures { λ r. ⌜ r ≡ sendsPush self relative «start_time» «end_time» until «fade_ease» «fade_in» «fade_out» source ⌝ }
+        ensures { λ r. ⌜ r ≡ sendsPush self relative «start_time» «end_time» until «fade_ease» «fade_in» «fade_out» source gain ⌝ }
     {
         let no = self.push_refusal(
             start_time,
@@ -94,6 +97,7 @@ impl SequencerBackend {
             fade_in,
             fade_out,
             source,
+            gain,
         );
         if no != 0 {
             return Outcome {
@@ -103,7 +107,16 @@ impl SequencerBackend {
         }
         let s = self.sequencer;
         let id = EventId(s.next);
-        let event = Event::new(start_time, until, fade_in, fade_out, fade_ease, source, id);
+        let event = Event::new(
+            start_time,
+            until,
+            fade_in,
+            fade_out,
+            fade_ease,
+            source,
+            gain,
+            id,
+        );
         let mut d = self.take_number();
         if relative {
             d = d.send(Message::PushRelative(event));
@@ -127,8 +140,9 @@ impl SequencerBackend {
         fade_in: f64,
         fade_out: f64,
         source: Source,
+        gain: f32,
     ) -> Outcome
-        ensures { λ r. ⌜ r ≡ pushes absolute self «start_time» «end_time» «fade_ease» «fade_in» «fade_out» source ⌝ }
+        ensures { λ r. ⌜ r ≡ pushes absolute self «start_time» «end_time» «fade_ease» «fade_in» «fade_out» source gain ⌝ }
     {
         self.send_push(
             false,
@@ -139,6 +153,7 @@ impl SequencerBackend {
             fade_in,
             fade_out,
             source,
+            gain,
         )
     }
 
@@ -151,8 +166,9 @@ impl SequencerBackend {
         fade_in: f64,
         fade_out: f64,
         source: Source,
+        gain: f32,
     ) -> Outcome
-        ensures { λ r. ⌜ r ≡ pushes relative self «start_time» «end_time» «fade_ease» «fade_in» «fade_out» source ⌝ }
+        ensures { λ r. ⌜ r ≡ pushes relative self «start_time» «end_time» «fade_ease» «fade_in» «fade_out» source gain ⌝ }
     {
         self.send_push(
             true,
@@ -163,6 +179,7 @@ impl SequencerBackend {
             fade_in,
             fade_out,
             source,
+            gain,
         )
     }
 
@@ -174,8 +191,9 @@ impl SequencerBackend {
         fade_in: f64,
         fade_out: f64,
         source: Source,
+        gain: f32,
     ) -> Outcome
-        ensures { λ r. ⌜ r ≡ pushes byDuration self «start_time» duration «fade_ease» «fade_in» «fade_out» source ⌝ }
+        ensures { λ r. ⌜ r ≡ pushes byDuration self «start_time» duration «fade_ease» «fade_in» «fade_out» source gain ⌝ }
     {
         self.send_push(
             false,
@@ -186,6 +204,7 @@ impl SequencerBackend {
             fade_in,
             fade_out,
             source,
+            gain,
         )
     }
 

@@ -3,6 +3,7 @@ use mathlib.Core.Bool.{Bool, true, false, not, _&&_, _||_, cond}
 use Prim.Native.Nat.{ℕ, _/_, _%_}
 use lib.Dec.{ltb, leb, eqb}
 use lib.Ieee.{Float, lt, le}
+use lib.Ieee.Scale.{finite}
 use Rattle.event.specs.declared.EventId.{EventId}
 use Rattle.event.specs.declared.Source.{Source}
 use Rattle.floats.specs.Arithmetic.{_+ᵈ_, _×ᵈ_, _<ᶠ_, _≤ᶠ_, oneᶠ, whole}
@@ -14,13 +15,14 @@ use Rattle.lists.specs.declared.FoundEdit.the-variants.{Stored, Missing}
 use Rattle.lists.specs.Edits.{foundEdit}
 use Rattle.ledger.specs.Refusals.{within, withinEnd, finiteSource}
 
-unfoldable pub pushRefusal : (start end lasts fade-in fade-out : Float) → Source → (held next : ℕ) → ℕ
-pushRefusal start end lasts fade-in fade-out source held next =
+unfoldable pub pushRefusal : (start end lasts fade-in fade-out : Float) → Source → (gain : Float) → (held next : ℕ) → ℕ
+pushRefusal start end lasts fade-in fade-out source gain held next =
     cond (not (within start && withinEnd end && within fade-in && within fade-out)) 3
     (cond (lasts <ᶠ fade-in || lasts <ᶠ fade-out) 4
     (cond (not (finiteSource source)) 5
+    (cond (not (finite gain)) 18
     (cond (leb 256 held) 6
-    (cond (eqb next 0) 7 0))))
+    (cond (eqb next 0) 7 0)))))
 
 -- where the number sounds; whether the end is past; its stored edit; how many are stored
 unfoldable pub roomless : Found → (over : Bool) → FoundEdit → ℕ → Bool

@@ -1,4 +1,4 @@
-// The refusals of document 01 that are the engine's, in their order: a number, or 0 where none applies. They take no engine, so that the desk and the tape can ask them too.
+// The refusals of documents 01 and 02 that are the engine's, in their order: a number, or 0 where none applies. They take no engine, so that the desk and the tape can ask them too.
 ghost use mathlib.Core.Bool.{_&&_};
 ghost use mathlib.Core.Path.{_≡_};
 ghost use Prim.Native.Nat.{min, _+_};
@@ -64,7 +64,7 @@ fn times_within(start: f64, end: f64, fade_in: f64, fade_out: f64) -> bool
     within(start) && within_end(end) && within(fade_in) && within(fade_out)
 }
 
-// Of a push: 3 to 7. `end` is the end or the duration as given, `lasts` is end - start, `held` how many events are held, `next` the next number.
+// Of a push: 3 to 5, 18, 6 and 7. `end` is the end or the duration as given, `lasts` is end - start, `held` how many events are held, `next` the next number.
 pub fn push_refusal(
     start: f64,
     end: f64,
@@ -72,10 +72,11 @@ pub fn push_refusal(
     fade_in: f64,
     fade_out: f64,
     source: Source,
+    gain: f32,
     held: usize,
     next: u64,
 ) -> u64
-    ensures { λ r. ⌜ r ≡ pushRefusal start end lasts «fade_in» «fade_out» source held next ⌝ }
+    ensures { λ r. ⌜ r ≡ pushRefusal start end lasts «fade_in» «fade_out» source gain held next ⌝ }
 {
     if !times_within(start, end, fade_in, fade_out) {
         return 3;
@@ -85,6 +86,9 @@ pub fn push_refusal(
     }
     if !finite_source(source) {
         return 5;
+    }
+    if !finite(gain) {
+        return 18;
     }
     if 256 <= held {
         return 6;

@@ -113,10 +113,10 @@ module _ (s : Sequencer) (l : Ledger) (f : Follows s l) (out : List Float) (long
   quiet c r x k = soundless (r .sequencer) (Engine.refusalOf (r .answer)) (silent (step l c)) out (kept s l c f (k .0)) (same-refusal (r .answer) ∙ ap refusalOf (k .1 .answer)) refl long
 
   follows-push : (kind : PushKind) (p : PushRecord)
-      → Followed (silentOf (pushes kind s (p .«start_time») (p .«end_time») (p .«fade_ease») (p .«fade_in») (p .«fade_out») (p .source))) out (silent (step l (pushCall kind p)))
+      → Followed (silentOf (pushes kind s (p .«start_time») (p .«end_time») (p .«fade_ease») (p .«fade_in») (p .«fade_out») (p .source) (p .gain))) out (silent (step l (pushCall kind p)))
   follows-push kind p =
-      quiet (pushCall kind p) (pushes kind s (p .«start_time») (p .«end_time») (p .«fade_ease») (p .«fade_in») (p .«fade_out») (p .source)) []
-      (keep-push s l kind (p .«start_time») (p .«end_time») (p .«fade_ease») (p .«fade_in») (p .«fade_out») (p .source) (f .lawful) (f .related))
+      quiet (pushCall kind p) (pushes kind s (p .«start_time») (p .«end_time») (p .«fade_ease») (p .«fade_in») (p .«fade_out») (p .source) (p .gain)) []
+      (keep-push s l kind (p .«start_time») (p .«end_time») (p .«fade_ease») (p .«fade_in») (p .«fade_out») (p .source) (p .gain) (f .lawful) (f .related))
 
   follows-edit : (kind : EditKind) (p : EditRecord) → Followed (silentOf (edits kind s (p .id) (p .«end_time») (p .«fade_out»))) out (silent (step l (editCall kind p)))
   follows-edit kind p = quiet (editCall kind p) (edits kind s (p .id) (p .«end_time») (p .«fade_out»)) [] (keep-edit s l kind (p .id .0) (p .«end_time») (p .«fade_out») (f .related))

@@ -46,7 +46,7 @@ restart-channels l None = refl
 
 accept-channels : (l : Ledger) (c : Call) → accept l c .ledger .channels ≡ l .channels
 unfolding accept enter advance
-accept-channels l (push kind start end fade-in fade-out curve source) = refl
+accept-channels l (push kind start end fade-in fade-out curve source gain) = refl
 accept-channels l (edit kind k end fade-out) =
     change-channels l k (record { «end_time» = editEnd kind (l .clock) end; «fade_out» = fade-out }) (has k (l .sounding)) (editEnd kind (l .clock) end <ᶠ l .threshold)
 accept-channels l (tick pool out) = refl

@@ -17,7 +17,7 @@ use Rattle.tape.specs.declared.reader.Cursor.{Cursor}
 use Rattle.tape.specs.declared.reader.Call.{Call}
 use Rattle.tape.specs.declared.reader.Read.{Read}
 use Rattle.tape.specs.declared.reader.Read.the-variants.{Record, Refused, End}
-use Rattle.tape.specs.Tape.{readAt, recordOf, unknown, pushKind, sizeOf, sizes, kindOf, callOf, modeByte, curveByte, sourceByte}
+use Rattle.tape.specs.Tape.{readAt, recordOf, unknown, pushKind, sizeOf, sizes, kindOf, plainKind, callOf, modeByte, curveByte, sourceByte}
 use Rattle.tape.specs.Fields.{Bytes, bytes-drop, field-below}
 use Rattle.listing.specs.Putting.{Putting, begin, further, ended, left-is, place-is}
 use Rattle.apply.specs.declared.Applied.{Applied}
@@ -31,21 +31,21 @@ use Rattle.render.proofs.Follows.{Follows, Followed, Readable, follows,
 -- ---- a record that was read moves the cursor on
 
 -- a record that 14 does not refuse is of a known kind
-known : (first : Bool) (bs : List ℕ) → unknown first bs ≡ false → kindOf bs < 10
+known : (first : Bool) (bs : List ℕ) → unknown first bs ≡ false → kindOf bs < 13
 unfolding unknown
 known true bs h = go (eqb (kindOf bs) 0) (eqb-true (kindOf bs) 0) h
   where
-    go : (t : Bool) → (t ≡ true → kindOf bs ≡ 0) → cond t (ltb 1 (modeByte bs)) true ≡ false → kindOf bs < 10
+    go : (t : Bool) → (t ≡ true → kindOf bs ≡ 0) → cond t (ltb 1 (modeByte bs)) true ≡ false → kindOf bs < 13
     go true e h = let z = e refl in omega arith
     go false e h = absurd (true≢false h)
-known false bs h = go (eqb (kindOf bs) 0) (ltb 9 (kindOf bs)) (ltb-false 9 (kindOf bs)) (cond (pushKind (kindOf bs)) (cond (ltb 1 (curveByte bs)) true (ltb 2 (sourceByte bs))) false) h
+known false bs h = go (eqb (kindOf bs) 0) (ltb 12 (kindOf bs)) (ltb-false 12 (kindOf bs)) (cond (pushKind (kindOf bs)) (cond (ltb 1 (curveByte bs)) true (ltb 2 (sourceByte bs))) false) h
   where
-    go : (t u : Bool) → (u ≡ false → kindOf bs ≤ 9) → (r : Bool) → cond t true (cond u true r) ≡ false → kindOf bs < 10
+    go : (t u : Bool) → (u ≡ false → kindOf bs ≤ 12) → (r : Bool) → cond t true (cond u true r) ≡ false → kindOf bs < 13
     go true u e r h = absurd (true≢false h)
     go false true e r h = absurd (true≢false h)
     go false false e r h = let z = e refl in omega arith
 
-size-pos : (k : ℕ) → k < 10 → 0 < sizeOf k
+size-pos : (k : ℕ) → k < 13 → 0 < sizeOf k
 unfolding sizeOf sizes
 size-pos zero h = lit< tt
 size-pos (suc zero) h = lit< tt
@@ -57,7 +57,10 @@ size-pos (suc (suc (suc (suc (suc (suc zero)))))) h = lit< tt
 size-pos (suc (suc (suc (suc (suc (suc (suc zero))))))) h = lit< tt
 size-pos (suc (suc (suc (suc (suc (suc (suc (suc zero)))))))) h = lit< tt
 size-pos (suc (suc (suc (suc (suc (suc (suc (suc (suc zero))))))))) h = lit< tt
-size-pos (suc (suc (suc (suc (suc (suc (suc (suc (suc (suc k)))))))))) h = absurd (omega arith)
+size-pos (suc (suc (suc (suc (suc (suc (suc (suc (suc (suc zero)))))))))) h = lit< tt
+size-pos (suc (suc (suc (suc (suc (suc (suc (suc (suc (suc (suc zero))))))))))) h = lit< tt
+size-pos (suc (suc (suc (suc (suc (suc (suc (suc (suc (suc (suc (suc zero)))))))))))) h = lit< tt
+size-pos (suc (suc (suc (suc (suc (suc (suc (suc (suc (suc (suc (suc (suc k))))))))))))) h = absurd (omega arith)
 
 abbrev nextOf : Cursor → Read → Cursor
 nextOf d (Record k call next) = next
@@ -107,7 +110,7 @@ readable-cond false x y p q = q
 readable-call : (bs : List ℕ) → Bytes bs → Readable (callOf bs)
 unfolding callOf
 readable-call bs h =
-    let k = kindOf bs in
+    let k = plainKind (kindOf bs) in
     readable-cond (eqb k 0) _ _ (field-below 8 bs 3 8 h (lit≤ tt))
     (readable-cond (eqb k 1) _ _ tt
     (readable-cond (eqb k 2) _ _ tt

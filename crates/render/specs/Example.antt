@@ -1,7 +1,8 @@
 -- Document 01's example tape on the plain ledger: the bytes that it renders, and where the room ends. Assumes nothing.
 use mathlib.Core.Path.{_≡_, refl}
-use mathlib.Core.List.{List, [], _∷_}
+use mathlib.Core.List.{List, [], _∷_, _++_}
 use Prim.Native.Nat.{ℕ}
+use lib.ListN.{take, drop}
 use Rattle.tape.specs.Example.{example}
 use Rattle.tape.specs.Fields.{field, le}
 use Rattle.tape.specs.Tape.{recordOf, unknown, pushKind, sizeOf, callOf, pushOf, sourceOf}
@@ -25,3 +26,11 @@ cut-example = refl
 pub empty-example : rendered example 7 ≡ []
 unfolding rendered recordOf unknown pushKind sizeOf callOf pushOf sourceOf field le
 empty-example = refl
+
+-- Paper 5: the same tape, its push as 0A with a gain of 0.5, 3F000000: the block's samples are 3F000000 and 00000000
+abbrev gainTape : List ℕ
+gainTape = take 20 example ++ (0x0A ∷ take 42 (drop 21 example) ++ (0 ∷ 0 ∷ 0x00 ∷ 0x3F ∷ drop 63 example))
+
+pub gain-example : rendered gainTape 12 ≡ 0x00 ∷ 0x00 ∷ 0x00 ∷ 0x3F ∷ 0 ∷ 0 ∷ 0 ∷ 0 ∷ 0 ∷ 0 ∷ 0 ∷ 0 ∷ []
+unfolding rendered recordOf unknown pushKind sizeOf callOf pushOf sourceOf field le
+gain-example = refl

@@ -47,7 +47,7 @@ heard c n w o =
     record { ledger = o .ledger; refusal = no; samples = cond (eqb no 0) (channelsOf c n w (o .reply .out)) [] }
 
 abbrev pub pushCall : PushKind → PushRecord → Calls.Call
-pushCall kind p = push kind (p .«start_time») (p .«end_time») (p .«fade_in») (p .«fade_out») (p .«fade_ease») (p .source)
+pushCall kind p = push kind (p .«start_time») (p .«end_time») (p .«fade_in») (p .«fade_out») (p .«fade_ease») (p .source) (p .gain)
 
 abbrev pub editCall : EditKind → EditRecord → Calls.Call
 editCall kind p = edit kind (p .id .0) (p .«end_time») (p .«fade_out»)

@@ -1,4 +1,4 @@
-// Loops over samples: what a source gives, fades, and adding. The fades and the adding are those of `fade_in`, `fade_out` and
+// Loops over samples: what a source gives, gains, fades, and adding. The fades and the adding are those of `fade_in`, `fade_out` and
 // `process` of src/sequencer.rs of fundsp. A slice may have any length; places that it lacks are left out.
 ghost use mathlib.Core.Path.{_≡_};
 ghost use Prim.Native.Nat.{_+_, _-_, _/_, _≤_, min, max};
@@ -8,7 +8,7 @@ ghost use lib.ListN.{length, take, drop, replicate};
 ghost use Rattle.event.specs.Runs.{steps};
 ghost use Rattle.event.specs.Sources.{given, advancedBy};
 ghost use Rattle.floats.specs.Arithmetic.{_+ˢ_, _-ˢ_, zeroᶠ, oneᶠ};
-ghost use Rattle.ledger.specs.BlockSamples.{fadedAll, faded, addAt, overlay};
+ghost use Rattle.ledger.specs.BlockSamples.{gained, fadedAll, faded, addAt, overlay};
 ghost use Rattle.runs.specs.Walk.{zipped};
 ghost use Rattle.runs.specs.Samples as Samples;
 ghost use Rattle.runs.specs.Samples.{chain, phasesOf, shaped, clipRun};
@@ -115,6 +115,17 @@ pub fn fill_run(s: &mut [f32], unit: Unit, pool: &[f32]) -> Unit
             after.place = clip(s, pool, offset, length, unit.place);
             after
         }
+    }
+}
+
+// Every sample at a gain.
+pub fn apply_gain(s: &mut [f32], gain: f32)
+    ensures { λ _. ⌜ now (s .exit) ≡ gained gain (now (s .entry)) ⌝ }
+{
+    let mut i = 0;
+    while i < s.len() {
+        s[i] = s[i] * gain;
+        i += 1;
     }
 }
 

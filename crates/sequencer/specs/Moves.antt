@@ -75,6 +75,7 @@ shifted t e = record {
   «fade_out» = e .«fade_out»;
   «fade_ease» = e .«fade_ease»;
   unit = e .unit;
+  gain = e .gain;
   id = e .id;
 }
 

@@ -22,22 +22,22 @@ use Rattle.sequencer.specs.Answers.{said, refuses}
 abbrev pub enters : Sequencer → Event → Sequencer
 enters s e = withNext (pushedEvent s e) ((s .next + 1) % 2 ^ 64)
 
-unfoldable pub admitted : Sequencer → (start end : Float) → Fade → (fade-in fade-out : Float) → Source → Outcome
+unfoldable pub admitted : Sequencer → (start end : Float) → Fade → (fade-in fade-out : Float) → Source → (gain : Float) → Outcome
 unfolding pushedEvent
-admitted s start end curve fade-in fade-out source = record {
-  sequencer = enters s (newEvent start end fade-in fade-out curve source (s .next));
+admitted s start end curve fade-in fade-out source gain = record {
+  sequencer = enters s (newEvent start end fade-in fade-out curve source gain (s .next));
   answer = said (number (s .next));
 }
 
 -- `start` and `end` are as given, `lasts` is end - start, and the event is to last from `from` to `until`
-unfoldable pub pushesTo : Sequencer → (start end lasts from until : Float) → Fade → (fade-in fade-out : Float) → Source → Outcome
+unfoldable pub pushesTo : Sequencer → (start end lasts from until : Float) → Fade → (fade-in fade-out : Float) → Source → (gain : Float) → Outcome
 unfolding admitted pushRefusal
-pushesTo s start end lasts from until curve fade-in fade-out source =
+pushesTo s start end lasts from until curve fade-in fade-out source gain =
     let held = min (s .«ready_len» + (s .«active_len» + s .«past_len»)) 256 in
-    let no = pushRefusal start end lasts fade-in fade-out source held (s .next) in
-    cond (eqb no 0) (admitted s from until curve fade-in fade-out source) (refuses s no)
+    let no = pushRefusal start end lasts fade-in fade-out source gain held (s .next) in
+    cond (eqb no 0) (admitted s from until curve fade-in fade-out source gain) (refuses s no)
 
-unfoldable pub pushes : PushKind → Sequencer → (start end : Float) → Fade → (fade-in fade-out : Float) → Source → Outcome
+unfoldable pub pushes : PushKind → Sequencer → (start end : Float) → Fade → (fade-in fade-out : Float) → Source → (gain : Float) → Outcome
 unfolding pushesTo statedEnd pushedTime
-pushes kind s start end curve fade-in fade-out source =
-    pushesTo s start end (statedEnd kind start end -ᵈ start) (pushedTime kind (s .time) start) (pushedTime kind (s .time) (statedEnd kind start end)) curve fade-in fade-out source
+pushes kind s start end curve fade-in fade-out source gain =
+    pushesTo s start end (statedEnd kind start end -ᵈ start) (pushedTime kind (s .time) start) (pushedTime kind (s .time) (statedEnd kind start end)) curve fade-in fade-out source gain

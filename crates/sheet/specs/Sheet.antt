@@ -54,7 +54,7 @@ desk8 =
     Desk.run (
     back (Desk.rate (whole 8))
     ∷ front Desk.reset
-    ∷ front (Desk.push absolute zeroᶠ oneᶠ zeroᶠ zeroᶠ Smooth (Held oneᶠ))
+    ∷ front (Desk.push absolute zeroᶠ oneᶠ zeroᶠ zeroᶠ Smooth (Held oneᶠ) oneᶠ)
     ∷ back (Desk.tick [] (zeroᶠ ∷ [])) ∷ []) (opened (fresh 1 None 1)) .desk
 
 pub record Sheet : Type 0 where

@@ -66,6 +66,7 @@ fn mixed_event(digest: u64, event: Event) -> u64 {
     let d = mixed(digest, id.0);
     let d = mixed_time(mixed_time(d, event.start_time), event.end_time);
     let d = mixed_time(mixed_time(d, event.fade_in), event.fade_out);
+    let d = mixed(d, bits(event.gain));
     let fade = event.fade_ease;
     let d = mixed(d, curve_number(fade));
     let unit = event.unit;

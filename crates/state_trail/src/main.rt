@@ -21,6 +21,7 @@ fn push(s: Sequencer, kind: u8, p: PushRecord) -> Outcome {
             p.fade_in,
             p.fade_out,
             source,
+            p.gain,
         ),
         2 => s.push_relative(
             p.start_time,
@@ -29,6 +30,7 @@ fn push(s: Sequencer, kind: u8, p: PushRecord) -> Outcome {
             p.fade_in,
             p.fade_out,
             source,
+            p.gain,
         ),
         _ => s.push_duration(
             p.start_time,
@@ -37,6 +39,7 @@ fn push(s: Sequencer, kind: u8, p: PushRecord) -> Outcome {
             p.fade_in,
             p.fade_out,
             source,
+            p.gain,
         ),
     }
 }

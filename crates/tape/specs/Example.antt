@@ -54,6 +54,7 @@ pub reads-push : readAt example (at 20) ≡ Record 0x01 (Push (record {
   «fade_out» = zero64;
   «fade_ease» = Smooth;
   source = Held (fin false 1 (pos 0));
+  gain = fin false 1 (pos 0);
 })) (at 63)
 unfolding readAt recordOf unknown pushKind sizeOf sizes callOf pushOf sourceOf field le ofBits
 reads-push = refl

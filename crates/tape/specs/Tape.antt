@@ -1,10 +1,11 @@
--- Document 01's tape: what a record says, and when it is refused as 14 or 15. A byte that is not there counts as 0, which every place allows, so 14 looks only at bytes that are there. Assumes nothing.
-use Prim.Native.Nat.{ℕ, _+_}
+-- Document 01's tape, with Paper 5's kinds: what a record says, and when it is refused as 14 or 15. A byte that is not there counts as 0, which every place allows, so 14 looks only at bytes that are there. Assumes nothing.
+use Prim.Native.Nat.{ℕ, _+_, _-_}
 use mathlib.Core.Bool.{Bool, true, false, cond}
 use mathlib.Core.List.{List, [], _∷_}
 use lib.ListN.{length, getD, drop}
 use lib.Dec.{ltb, eqb}
 use lib.Ieee.{Float, binary32, binary64, ofBits}
+use Rattle.floats.specs.Arithmetic.{oneᶠ}
 use Rattle.tape.specs.Fields.{field}
 use Rattle.event.specs.declared.EventId.{EventId}
 use Rattle.event.specs.declared.Fade.{Fade}
@@ -26,17 +27,24 @@ use Rattle.tape.specs.declared.reader.Read.the-variants.{Record, Refused
 abbrev pub kindOf : List ℕ → ℕ
 kindOf bs = getD bs 0 0
 
--- the length of a record with its kind byte; kinds 00 to 09
+-- the length of a record with its kind byte; kinds 00 to 0C
 unfoldable pub sizes : List ℕ
-sizes = 11 ∷ 43 ∷ 43 ∷ 43 ∷ 25 ∷ 25 ∷ 1 ∷ 2 ∷ 1 ∷ 9 ∷ []
+sizes = 11 ∷ 43 ∷ 43 ∷ 43 ∷ 25 ∷ 25 ∷ 1 ∷ 2 ∷ 1 ∷ 9 ∷ 47 ∷ 47 ∷ 47 ∷ []
 
 unfoldable pub sizeOf : ℕ → ℕ
 unfolding sizes
 sizeOf kind = getD sizes kind 0
 
--- the pushes: 01, 02, 03
+-- "the new tape kinds 0A, 0B and 0C are the same pushes with four gain bytes at the end of the body": whether a kind has gain bytes, and the same kind without them
+abbrev pub gainKind : ℕ → Bool
+gainKind kind = cond (ltb 9 kind) (ltb kind 13) false
+
+abbrev pub plainKind : ℕ → ℕ
+plainKind kind = cond (gainKind kind) (kind - 9) kind
+
+-- the pushes: 01, 02, 03, and 0A, 0B, 0C
 unfoldable pub pushKind : ℕ → Bool
-pushKind kind = cond (ltb 0 kind) (ltb kind 4) false
+pushKind kind = cond (ltb 0 (plainKind kind)) (ltb (plainKind kind) 4) false
 
 -- the places of the mode byte of 00, and of a push's curve and source bytes
 abbrev pub modeByte : List ℕ → ℕ
@@ -67,7 +75,7 @@ unfolding unknownPush
 unknown true bs = cond (eqb (kindOf bs) 0) (unknownMode (modeByte bs)) true
 unknown false bs =
     cond (eqb (kindOf bs) 0) true
-    (cond (ltb 9 (kindOf bs)) true
+    (cond (ltb 12 (kindOf bs)) true
     (cond (pushKind (kindOf bs)) (unknownPush bs) false))
 
 -- ---- a body's fields
@@ -92,7 +100,11 @@ sourceOf bs =
     let clip = Clip (field bs 35 4) (field bs 39 4) in
     cond (eqb (sourceByte bs) (sourceNumber held)) held (cond (eqb (sourceByte bs) (sourceNumber ramp)) ramp clip)
 
--- start, end or duration, fade-in, fade-out, curve, source
+-- "Records 01 to 03 mean gain 1.0"
+abbrev pub gainOf : List ℕ → Float
+gainOf bs = cond (gainKind (kindOf bs)) (f32At bs 43) oneᶠ
+
+-- start, end or duration, fade-in, fade-out, curve, source, gain
 unfoldable pub pushOf : List ℕ → PushRecord
 pushOf bs = record {
   «start_time» = f64At bs 1;
@@ -101,13 +113,14 @@ pushOf bs = record {
   «fade_out» = f64At bs 25;
   «fade_ease» = curveOf (curveByte bs);
   source = sourceOf bs;
+  gain = gainOf bs;
 }
 
 -- number, end, fade-out
 unfoldable pub editOf : List ℕ → EditRecord
 editOf bs = record { id = record { 0 = field bs 1 8 }; «end_time» = f64At bs 9; «fade_out» = f64At bs 17 }
 
--- the call of a record that is there whole
+-- the call of a record that is there whole, by its kind without gain bytes
 abbrev pub callAt : ℕ → List ℕ → Call
 callAt kind bs =
     cond (eqb kind 0) (Create (getD bs 1 0) (modeOf (modeByte bs)) (field bs 3 8))
@@ -121,7 +134,7 @@ callAt kind bs =
     (cond (eqb kind 8) Reset (SetSampleRate (f64At bs 1))))))))))
 
 unfoldable pub callOf : List ℕ → Call
-callOf bs = callAt (kindOf bs) bs
+callOf bs = callAt (plainKind (kindOf bs)) bs
 
 -- the record that begins the list: 14, then 15, then its call
 unfoldable pub recordOf : Cursor → List ℕ → Read

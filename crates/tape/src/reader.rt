@@ -2,7 +2,7 @@
 ghost use mathlib.Core.Path.{_≡_};
 ghost use Prim.Native.Nat.{_+_, _<_, _^_};
 ghost use lib.ListN.{length};
-ghost use Rattle.tape.specs.Tape.{readAt, recordOf, unknown, unknownPush, pushKind, sizeOf, callOf, pushOf, editOf, modeOf, curveOf, sourceOf};
+ghost use Rattle.tape.specs.Tape.{readAt, recordOf, unknown, unknownPush, gainKind, plainKind, pushKind, sizeOf, callOf, pushOf, editOf, modeOf, curveOf, sourceOf, gainOf};
 use crate::fields;
 use event::EventId;
 use event::Fade;
@@ -23,6 +23,7 @@ pub struct PushRecord {
     pub fade_out: f64,
     pub fade_ease: Fade,
     pub source: Source,
+    pub gain: f32,
 }
 
 pub struct EditRecord {
@@ -55,11 +56,29 @@ pub enum Read {
     End,
 }
 
+// Whether a record of this kind has gain bytes.
+fn has_gain(kind: u8) -> bool
+    ensures { λ r. ⌜ r ≡ gainKind kind ⌝ }
+{
+    if 9 < kind { kind < 13 } else { false }
+}
+
+// The same kind without gain bytes.
+fn plain_kind(kind: u8) -> u8
+    ensures { λ r. ⌜ r ≡ plainKind kind ⌝ }
+{
+    if kind < 10 {
+        return kind;
+    }
+    if kind < 13 { kind - 9 } else { kind }
+}
+
 // Whether a record of this kind is a push, with a curve and a source byte.
 fn is_push(kind: u8) -> bool
     ensures { λ r. ⌜ r ≡ pushKind kind ⌝ }
 {
-    if 0 < kind { kind < 4 } else { false }
+    let k = plain_kind(kind);
+    if 0 < k { k < 4 } else { false }
 }
 
 // Whether a push's curve or source byte is unknown.
@@ -86,7 +105,7 @@ fn is_unknown(first: bool, bs: &[u8]) -> bool
     if kind == 0 {
         return true;
     }
-    if 9 < kind {
+    if 12 < kind {
         return true;
     }
     if is_push(kind) {
@@ -95,14 +114,14 @@ fn is_unknown(first: bool, bs: &[u8]) -> bool
     false
 }
 
-const SIZES: [usize; 10] = [11, 43, 43, 43, 25, 25, 1, 2, 1, 9];
+const SIZES: [usize; 13] = [11, 43, 43, 43, 25, 25, 1, 2, 1, 9, 47, 47, 47];
 
 // A record's length with its kind byte.
 fn size_of(kind: u8) -> usize
     ensures { λ r. ⌜ r ≡ sizeOf kind ⌝ }
 {
     let k = kind as usize;
-    if k < 10 { SIZES[k] } else { 0 }
+    if k < 13 { SIZES[k] } else { 0 }
 }
 
 fn mode_of(b: u8) -> ReplayMode
@@ -134,6 +153,16 @@ fn source_of(bs: &[u8]) -> Source
     }
 }
 
+// The gain bytes' number, or 1.0 where the kind has none.
+fn gain_of(bs: &[u8]) -> f32
+    ensures { λ r. ⌜ r ≡ gainOf (now (bs .entry)) ⌝ }
+{
+    if has_gain(fields::byte(bs, 0)) {
+        return fields::f32_at(bs, 43);
+    }
+    1.0
+}
+
 fn push_of(bs: &[u8]) -> PushRecord
     ensures { λ r. ⌜ r ≡ pushOf (now (bs .entry)) ⌝ }
 {
@@ -143,6 +172,7 @@ fn push_of(bs: &[u8]) -> PushRecord
     let fade_out = fields::f64_at(bs, 25);
     let fade_ease = curve_of(fields::byte(bs, 33));
     let source = source_of(bs);
+    let gain = gain_of(bs);
     PushRecord {
         start_time,
         end_time,
@@ -150,6 +180,7 @@ fn push_of(bs: &[u8]) -> PushRecord
         fade_out,
         fade_ease,
         source,
+        gain,
     }
 }
 
@@ -170,7 +201,7 @@ fn edit_of(bs: &[u8]) -> EditRecord
 fn call_of(bs: &[u8]) -> Call
     ensures { λ r. ⌜ r ≡ callOf (now (bs .entry)) ⌝ }
 {
-    let kind = fields::byte(bs, 0);
+    let kind = plain_kind(fields::byte(bs, 0));
     match kind {
         0 => {
             let m = mode_of(fields::byte(bs, 2));

@@ -34,9 +34,9 @@ fn refill(buf: &mut [u8], at: usize, have: usize) -> usize
     kept + got
 }
 
-// Whether `have` bytes hold a whole record of any kind from `at` on: reading one needs no more than 43 (tape, specs/Window).
+// Whether `have` bytes hold a whole record of any kind from `at` on: reading one needs no more than 47 (tape, specs/Window).
 fn enough(at: usize, have: usize) -> bool {
-    if have < at { false } else { 43 <= have - at }
+    if have < at { false } else { 47 <= have - at }
 }
 
 // Lists an applied record; false where the listing ends there.

@@ -1,4 +1,5 @@
-//! Compares the port's C entry, linked from its static library, with the oracle's bytes.
+//! Compares the port's C entry, linked from its static library, with the oracle's bytes: the original's where all gains of a tape are
+//! 1.0, else the second ledger's.
 
 use oracle::compare::{Compared, Options, compare};
 use oracle::render::{render as expected_render, render_ends};

@@ -1,11 +1,10 @@
-//! Compares a program that reads a tape on standard input with the oracle's listing.
+//! Compares a program that reads a tape on standard input with the oracle's listing: the original's where all gains of a tape
+//! are 1.0, else the second ledger's.
 
 use oracle::compare::{Compared, Options, compare, first_line};
-use oracle::desk::Desk;
-use oracle::engine::Engine;
 use oracle::generate::Profile;
-use oracle::listing::{Detail, play};
-use oracle::player::Pool;
+use oracle::judge;
+use oracle::listing::Detail;
 use oracle::session::{TRAIL_POOL, pool};
 use oracle::tape::{Format, as_the_port_lends};
 use std::io::{Read, Write};
@@ -49,22 +48,13 @@ fn run(arguments: &[String]) -> Result<Compared, String> {
             (_, Detail::Digest) => &tape[..tape.len().min(STATE_TAPE)],
             _ => tape,
         };
-        let expected = listing(format, detail, tape, &pool);
+        let mut expected = Vec::new();
+        judge::play(format, detail, tape, &pool, &mut expected).expect("memory takes all");
         match output(program, arguments, tape) {
             Ok(got) => first_line(&expected, &got),
             Err(what) => Some(what),
         }
     }))
-}
-
-fn listing(format: Format, detail: Detail, tape: &[u8], pool: &Pool) -> Vec<u8> {
-    let mut text = Vec::new();
-    let played = match format {
-        Format::Desk => play::<Desk>(format, detail, (), tape, pool, &mut text),
-        _ => play::<Engine>(format, detail, (), tape, pool, &mut text),
-    };
-    played.expect("memory takes all");
-    text
 }
 
 /// What the program prints for a tape. Its exit code does not matter; a signal does.

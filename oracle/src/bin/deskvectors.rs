@@ -42,7 +42,7 @@ fn script() -> Vec<u8> {
     }
     text += "front-reset\nblock 16\nreset\n";
     let mut script = from_text(&text).expect("a script");
-    for profile in ["desk-resets", "desk-full", "desk-edits", "desk-small", "desk-lent"] {
+    for profile in ["desk-resets", "desk-full", "desk-edits", "desk-small", "desk-lent", "desk-gains-one"] {
         for seed in 1..4 {
             let random = generate(named(profile).expect("a profile"), seed);
             let random = as_the_port_lends(Format::Desk, &random);

@@ -1,10 +1,12 @@
 //! Random short lists of calls, with what the original answers, writes and holds after each, as the
-//! Rattle file crates/ledger_trials/specs/RandomLists.antt. The same file at every run.
+//! Rattle file crates/ledger_trials/specs/RandomLists.antt. The same file at every run. The gains of
+//! these are 1.0; the lists of one more group have other gains, and are measured by the second ledger.
 //!
 //! Usage: ledgerlists > crates/ledger_trials/specs/RandomLists.antt
 
 use oracle::call::{Call, Curve, Edit, Mode, Push, PushKind, Source, Timing};
 use oracle::engine::Engine;
+use oracle::ledger::Ledger;
 use oracle::player::{Answer, BLOCK, Player, Pool};
 use oracle::state::{EventState, State, sample_bits};
 use std::fmt::Write;
@@ -13,6 +15,10 @@ use std::fmt::Write;
 const LISTS: usize = 110;
 const GROUP: usize = 10;
 const SEED: u64 = 20_260_101;
+const GAINS_SEED: u64 = SEED + 1;
+
+/// A call whose text is longer is broken into lines.
+const LONG: usize = 380;
 
 /// What lent memory holds before a call.
 const LENT: f32 = 0.25;
@@ -35,6 +41,9 @@ const WILD_TIMES: &[f64] = &[
     1e300,
 ];
 const WILD_SAMPLES: &[f32] = &[f32::NAN, f32::INFINITY, f32::NEG_INFINITY, f32::MAX];
+/// Finite gains, and those that are refused.
+const GAINS: &[f32] = &[1.0, 0.5, 0.7, -1.0, -0.3, 0.0, -0.0, 1e-40, 3.0, 1e38, 3e38];
+const WILD_GAINS: &[f32] = &[f32::NAN, f32::INFINITY, f32::NEG_INFINITY];
 const WILD_RATES: &[f64] = &[0.0, 0.999, 1_000_001.0, f64::NAN, -8.0, f64::INFINITY, 1e6];
 
 /// A small deterministic random generator: splitmix64.
@@ -68,9 +77,11 @@ impl Random {
 }
 
 /// One list: the engine plays each call as it is drawn, so that times lie round the clock.
-struct Trial<'a> {
+struct Trial<'a, P> {
     random: &'a mut Random,
-    engine: Engine,
+    engine: P,
+    /// Whether pushes have other gains than 1.0.
+    gains: bool,
     pool: Pool,
     first: u64,
     /// Each call with what it must give back.
@@ -79,7 +90,7 @@ struct Trial<'a> {
 
 // ---- drawing
 
-impl Trial<'_> {
+impl<P: Player> Trial<'_, P> {
     fn clock(&self) -> f64 {
         f64::from_bits(self.engine.state().clock)
     }
@@ -151,6 +162,14 @@ impl Trial<'_> {
         }
     }
 
+    fn gain(&mut self) -> f32 {
+        if self.random.chance(10) {
+            self.random.pick(WILD_GAINS)
+        } else {
+            self.random.pick(GAINS)
+        }
+    }
+
     fn push(&mut self) -> Call {
         let kind = self.random.pick(&[
             PushKind::Absolute,
@@ -193,6 +212,7 @@ impl Trial<'_> {
         }
         let curve = self.random.pick(&[Curve::Power, Curve::Smooth]);
         let source = self.source();
+        let written_gain = if self.gains { Some(self.gain()) } else { None };
         Call::Push(
             kind,
             Push {
@@ -202,6 +222,7 @@ impl Trial<'_> {
                 fade_out,
                 curve,
                 source,
+                written_gain,
             },
             0,
         )
@@ -314,7 +335,7 @@ impl Trial<'_> {
 
 // ---- playing
 
-impl Trial<'_> {
+impl<P: Player> Trial<'_, P> {
     fn play(&mut self, call: &Call) {
         let want = match *call {
             Call::Push(kind, ref push, _) => says(self.engine.push(kind, push)),
@@ -327,7 +348,15 @@ impl Trial<'_> {
             }
             _ => unreachable!("`call` draws no other"),
         };
-        self.calls.push(format!("({}, {want})", call_text(call)));
+        let call = call_text(call);
+        let text = format!("({call}, {want})");
+        let long = text.chars().count() > LONG;
+        self.calls.push(if long {
+            let want = broken(&want, "                ");
+            format!("(\n            {call},\n            {want},\n          )")
+        } else {
+            text
+        });
     }
 
     fn play_tick(&mut self, length: usize) -> String {
@@ -399,8 +428,8 @@ fn list(items: impl IntoIterator<Item = String>) -> String {
     text + "[]"
 }
 
-/// A field of a record whose list is broken into lines of at most 200 characters.
-fn broken(field: &str) -> String {
+/// A field of a record, or what a call must give, whose lists are broken into lines of at most 200 characters, in `rt fmt`'s layout.
+fn broken(field: &str, indent: &str) -> String {
     let mut text = String::new();
     let mut width = 0;
     for item in field.split(" ∷ ") {
@@ -408,8 +437,8 @@ fn broken(field: &str) -> String {
         if text.is_empty() {
             width = long - 3;
         } else if width + long > 200 {
-            text += "\n          ∷ ";
-            width = 9 + long;
+            text = text + "\n" + indent + "∷ ";
+            width = indent.len() - 1 + long;
         } else {
             text += " ∷ ";
             width += long;
@@ -474,9 +503,10 @@ fn call_text(call: &Call) -> String {
                 .map(double)
                 .join(" ");
             format!(
-                "push {kind} {times} {:?} {}",
+                "push {kind} {times} {:?} {} {}",
                 push.curve,
-                source_text(push.source)
+                source_text(push.source),
+                single(push.gain())
             )
         }
         Call::Edit(timing, edit) => {
@@ -603,8 +633,8 @@ fn edits_text(state: &State) -> String {
     }))
 }
 
-/// One list as a trial.
-fn trial(random: &mut Random) -> String {
+/// One list as a trial, with the answers of a player of this kind.
+fn trial<P: Player>(random: &mut Random, gains: bool) -> String {
     let channels = random.pick(&[1, 1, 1, 2, 2, 3]);
     let channels = if random.chance(2) {
         random.pick(&[0, 9])
@@ -614,11 +644,12 @@ fn trial(random: &mut Random) -> String {
     let mode = random.pick(&[Mode::All, Mode::None]);
     let first = random.pick(&[1, 1, 1, 1, 1, 1, 2, 1000, u64::MAX - 2, u64::MAX]);
     let first = if random.chance(2) { 0 } else { first };
-    let (engine, created) = Engine::create((), channels, mode, first);
+    let (engine, created) = P::create(P::Variant::default(), channels, mode, first);
     let mut trial = Trial {
         random,
         first: engine.state().next,
         engine,
+        gains,
         pool: POOL.into(),
         calls: Vec::new(),
     };
@@ -652,13 +683,17 @@ fn trial(random: &mut Random) -> String {
     }}",
         answer_text(created),
         calls.concat(),
-        broken(&format!("      state = {}", state_text(&state))),
+        broken(
+            &format!("      state = {}", state_text(&state)),
+            "          "
+        ),
         edits_text(&state)
     )
 }
 
 const HEAD: &str = "\
 -- GENERATED by the oracle's `ledgerlists`: random lists of calls, each with what the Rust sequencer answers, writes and holds after it. The ledger has the same. Assumes nothing.
+-- The last group has gains other than 1.0, which the Rust has not: its answers are those of the oracle's second ledger, written in Rust from the documents.
 use mathlib.Core.Path.{_≡_, refl}
 use mathlib.Core.Bool.{true, false}
 use mathlib.Core.List.{List, [], _∷_}
@@ -679,12 +714,20 @@ fn main() {
         "\nabbrev pool : List Float\npool = {}",
         list(POOL.map(single))
     );
-    for group in 1..=LISTS / GROUP {
-        let trials: Vec<String> = (0..GROUP).map(|_| trial(&mut random)).collect();
-        println!("\nunfoldable pub lists{group} : List Trial");
-        println!("lists{group} =\n    {}\n    ∷ []", trials.join("\n    ∷ "));
-        println!("\npub agree{group} : allAgree lists{group} ≡ true");
-        println!("unfolding allAgree lists{group}");
-        println!("agree{group} = refl");
+    let groups = LISTS / GROUP;
+    for group in 1..=groups {
+        let trials = (0..GROUP).map(|_| trial::<Engine>(&mut random, false));
+        print_group(group, trials.collect());
     }
+    let mut random = Random(GAINS_SEED);
+    let trials = (0..GROUP).map(|_| trial::<Ledger>(&mut random, true));
+    print_group(groups + 1, trials.collect());
+}
+
+fn print_group(group: usize, trials: Vec<String>) {
+    println!("\nunfoldable pub lists{group} : List Trial");
+    println!("lists{group} =\n    {}\n    ∷ []", trials.join("\n    ∷ "));
+    println!("\npub agree{group} : allAgree lists{group} ≡ true");
+    println!("unfolding allAgree lists{group}");
+    println!("agree{group} = refl");
 }

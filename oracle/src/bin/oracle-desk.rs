@@ -1,8 +1,9 @@
-//! Prints the listing of the desk script on standard input, with the desk's two queues.
+//! Prints the listing of the desk script on standard input, with the desk's two queues, by the original where all gains
+//! are 1.0, else by the second ledger.
 //! `--full` adds the whole state; `--digest` has it as digests, as the port's desk_trail prints it.
 
-use oracle::desk::Desk;
-use oracle::listing::{Detail, play};
+use oracle::judge;
+use oracle::listing::Detail;
 use oracle::session::{TRAIL_POOL, pool};
 use oracle::tape::Format;
 use std::io::{self, BufWriter, Read, Write};
@@ -34,6 +35,6 @@ fn run(detail: Detail) -> io::Result<()> {
     // A failed read counts as the end of the tape.
     let _ = io::stdin().lock().read_to_end(&mut tape);
     let mut out = BufWriter::new(io::stdout().lock());
-    play::<Desk>(Format::Desk, detail, (), &tape, &pool(TRAIL_POOL), &mut out)?;
+    judge::play(Format::Desk, detail, &tape, &pool(TRAIL_POOL), &mut out)?;
     out.flush()
 }

@@ -1,9 +1,10 @@
-//! Prints what `trail` must print for the tape on standard input.
+//! Prints what `trail` must print for the tape on standard input, by the original where all gains are 1.0, else by the second
+//! ledger.
 //! `--full` adds the whole state, `--digest` has it as digests in place of the listing, as the port's state_trail prints it;
 //! `--script` takes kinds 11 to 14 too.
 
-use oracle::engine::Engine;
-use oracle::listing::{Detail, play};
+use oracle::judge;
+use oracle::listing::Detail;
 use oracle::session::{TRAIL_POOL, pool};
 use oracle::tape::Format;
 use std::io::{self, BufWriter, Read, Write};
@@ -36,6 +37,6 @@ fn run(format: Format, detail: Detail) -> io::Result<()> {
     // A failed read counts as the end of the tape.
     let _ = io::stdin().lock().read_to_end(&mut tape);
     let mut out = BufWriter::new(io::stdout().lock());
-    play::<Engine>(format, detail, (), &tape, &pool(TRAIL_POOL), &mut out)?;
+    judge::play(format, detail, &tape, &pool(TRAIL_POOL), &mut out)?;
     out.flush()
 }

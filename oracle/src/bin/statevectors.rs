@@ -1,11 +1,11 @@
 //! The files crates/state_trail/stdin and crates/state_trail/stdout: a tape of the beginnings of random ones, of every valid
-//! profile, and the oracle's states behind each of its records. To make them, in the repository's root, once the oracle is
+//! profile whose gains are all 1.0, and the oracle's states behind each of its records. To make them, in the repository's root, once the oracle is
 //! built:
 //!     oracle/target/release/statevectors stdin > crates/state_trail/stdin
 //!     oracle/target/release/statevectors stdout > crates/state_trail/stdout
 
 use oracle::engine::Engine;
-use oracle::generate::{PROFILES, generate};
+use oracle::generate::{Gains, PROFILES, Profile, generate};
 use oracle::listing::{Detail, play};
 use oracle::session::{TRAIL_POOL, pool};
 use oracle::tape::{Format, bytes, records};
@@ -34,10 +34,11 @@ fn main() -> io::Result<()> {
 
 fn tape() -> Vec<u8> {
     let mut tape = from_text("create 2 all 1\n").expect("a record");
-    let valid = PROFILES
-        .iter()
-        .filter(|profile| profile.format == Format::Tape && !profile.damaged);
-    for profile in valid {
+    let valid = |profile: &&Profile| {
+        let of_the_original = matches!(profile.gains, Gains::None | Gains::One);
+        profile.format == Format::Tape && !profile.damaged && of_the_original
+    };
+    for profile in PROFILES.iter().filter(valid) {
         let random = generate(profile, 1);
         let (calls, _) = records(Format::Tape, &random);
         let some: Vec<_> = calls.into_iter().skip(1).take(EACH).collect();

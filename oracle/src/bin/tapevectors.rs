@@ -4,10 +4,10 @@
 //!     oracle/target/release/tapevectors stdin > crates/tape_vectors/stdin
 //!     oracle/target/release/tapevectors stdout > crates/tape_vectors/stdout
 
-use oracle::engine::Engine;
 use oracle::generate::{generate, named};
 use oracle::digest::mixed;
-use oracle::listing::{Detail, play};
+use oracle::judge;
+use oracle::listing::Detail;
 use oracle::player::Pool;
 use oracle::render::render;
 use oracle::session::{TRAIL_POOL, pool};
@@ -65,7 +65,7 @@ fn long() -> Vec<u8> {
 /// How many records the listing has, and the digest of its numbers.
 fn played(tape: &[u8], pool: &Pool) -> io::Result<(u64, u64)> {
     let mut text = Vec::new();
-    play::<Engine>(Format::Tape, Detail::Listing, (), tape, pool, &mut text)?;
+    judge::play(Format::Tape, Detail::Listing, tape, pool, &mut text)?;
     let text = String::from_utf8(text).expect("a listing is ASCII");
     let (mut records, mut digest) = (0, 0);
     for line in text.lines() {

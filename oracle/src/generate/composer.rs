@@ -1,6 +1,6 @@
 //! Composing a random tape: calls whose numbers cluster round the clock.
 
-use super::profile::{Opening, Profile};
+use super::profile::{Gains, Opening, Profile};
 use super::random::Random;
 use super::wild;
 use crate::call::{Call, Curve, Edit, Mode, Push, PushKind, Source, Timing};
@@ -8,6 +8,28 @@ use crate::tape::Format;
 
 /// Plain levels, steps and values of sources.
 const LEVELS: &[f32] = &[1.0, 1.0, 0.5, -1.0, 0.1, 3.0, 1e-3, 0.0];
+
+/// Finite gains: plain ones, both zeros, below 0, subnormal, and such as let products overflow and vanish.
+const GAINS: &[f32] = &[
+    1.0,
+    1.0,
+    0.5,
+    0.1,
+    0.7079458,
+    2.0,
+    -1.0,
+    -0.3,
+    0.0,
+    -0.0,
+    1e-45,
+    -1e-45,
+    1e-40,
+    f32::MIN_POSITIVE,
+    1e-38,
+    1e38,
+    f32::MAX,
+    f32::MIN,
+];
 
 /// The first of some numbers that no push is given.
 const UNKNOWN: u64 = 10_000;
@@ -341,6 +363,23 @@ impl Composer<'_> {
         }
     }
 
+    /// The gain as the record has it.
+    fn gain(&mut self) -> Option<f32> {
+        match self.profile.gains {
+            Gains::None => None,
+            Gains::One => self.random.chance(50).then_some(1.0),
+            Gains::Any if self.random.chance(12) => Some(self.random.pick(wild::GAINS)),
+            Gains::Finite | Gains::Any => {
+                let drawn = f32::from_bits(self.random.next() as u32);
+                match self.random.below(10) {
+                    0 | 1 => None,
+                    2 if drawn.is_finite() => Some(drawn),
+                    _ => Some(self.random.pick(GAINS)),
+                }
+            }
+        }
+    }
+
     fn push(&mut self) {
         let kind = self.random.pick(&[
             PushKind::Absolute,
@@ -394,6 +433,7 @@ impl Composer<'_> {
             fade_out,
             curve,
             source,
+            written_gain: self.gain(),
         };
         self.next = self.next.saturating_add(1);
         self.calls.push(Call::Push(kind, push, unused));

@@ -6,7 +6,7 @@ mod profile;
 pub mod random;
 mod wild;
 
-pub use profile::{PROFILES, Profile, named};
+pub use profile::{Gains, PROFILES, Profile, named};
 
 use crate::tape;
 use random::Random;

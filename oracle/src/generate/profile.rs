@@ -29,6 +29,19 @@ pub enum Opening {
     Late,
 }
 
+/// The gains of pushes.
+#[derive(Clone, Copy, PartialEq, Eq)]
+pub enum Gains {
+    /// Kinds 01 to 03 only.
+    None,
+    /// Kinds 01 to 03 and 0A to 0C, every gain 1.0.
+    One,
+    /// Other finite gains too.
+    Finite,
+    /// NaN and infinities too.
+    Any,
+}
+
 #[derive(Clone, Copy)]
 pub struct Profile {
     pub name: &'static str,
@@ -42,6 +55,7 @@ pub struct Profile {
     /// Percent of tapes in mode None.
     pub mode_none: u64,
     pub rates: &'static [f64],
+    pub gains: Gains,
     /// Percent of numbers taken from the limits and beyond.
     pub wild: u64,
     /// Greatest block size; percent of larger ones.
@@ -94,6 +108,7 @@ const SMALL: Profile = Profile {
     weights: EVEN,
     mode_none: 50,
     rates: RATES,
+    gains: Gains::None,
     wild: 0,
     blocks: (64, 0),
     longest: 100,
@@ -216,6 +231,51 @@ pub const PROFILES: &[Profile] = &[
         ..SMALL
     },
     Profile {
+        name: "gains-one",
+        about: "kinds 01 to 03 and 0A to 0C, every gain 1.0",
+        calls: (10, 60),
+        gains: Gains::One,
+        longest: 60,
+        ..SMALL
+    },
+    Profile {
+        name: "gains",
+        about: "gains of 0, -0.0, below 0, subnormal, huge, with products that overflow",
+        calls: (10, 60),
+        rates: UNEVEN_RATES,
+        gains: Gains::Finite,
+        longest: 40,
+        ..SMALL
+    },
+    Profile {
+        name: "gains-wild",
+        about: "NaN and infinite gains, among other limits",
+        calls: (10, 60),
+        gains: Gains::Any,
+        wild: 25,
+        blocks: (64, 3),
+        ..SMALL
+    },
+    Profile {
+        name: "gains-dense",
+        about: "any gain, near 256 held events",
+        calls: (80, 240),
+        opening: Opening::Crowd,
+        gains: Gains::Any,
+        longest: 1000,
+        ..SMALL
+    },
+    Profile {
+        name: "gains-damaged",
+        about: "damaged tapes with gains",
+        calls: (2, 16),
+        weights: Weights { push: 60, ..EVEN },
+        gains: Gains::Any,
+        wild: 5,
+        damaged: true,
+        ..SMALL
+    },
+    Profile {
         name: "lent",
         about: "script: lengths of lent output, scratch and pool",
         format: Format::Script,
@@ -308,6 +368,36 @@ pub const PROFILES: &[Profile] = &[
         },
         wild: 5,
         blocks: (64, 5),
+        ..SMALL
+    },
+    Profile {
+        name: "desk-gains-one",
+        about: "desk script: kinds 01 to 03 and 0A to 0C, every gain 1.0",
+        format: Format::Desk,
+        calls: (10, 60),
+        weights: Weights {
+            front_reset: 4,
+            ..EVEN
+        },
+        gains: Gains::One,
+        ..SMALL
+    },
+    Profile {
+        name: "desk-gains",
+        about: "desk script: any gain, also with full queues",
+        format: Format::Desk,
+        calls: (60, 300),
+        weights: Weights {
+            push: 100,
+            edit: 12,
+            tick: 1,
+            block: 2,
+            reset: 1,
+            rate: 1,
+            front_reset: 1,
+            lent: 0,
+        },
+        gains: Gains::Any,
         ..SMALL
     },
     Profile {

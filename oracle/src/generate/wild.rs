@@ -43,6 +43,8 @@ pub const RATES: &[f64] = &[
     44_100.000_000_000_01,
 ];
 
+pub const GAINS: &[f32] = &[f32::NAN, -f32::NAN, f32::INFINITY, f32::NEG_INFINITY];
+
 pub const SAMPLES: &[f32] = &[
     f32::MAX,
     f32::MIN,

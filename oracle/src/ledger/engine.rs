@@ -197,9 +197,9 @@ impl Ledger {
         let e = self.t + self.d;
         self.begin(e);
         output.fill(0.0);
-        let times = self.times(e);
+        let (times, mutation) = (self.times(e), self.mutation);
         self.sweep(|event| {
-            let sample = samples::tick(event, times, pool);
+            let sample = samples::tick(event, times, pool, mutation);
             for place in output.iter_mut() {
                 *place += sample;
             }

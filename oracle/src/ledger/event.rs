@@ -1,5 +1,6 @@
-//! Document 01, Sources and events.
+//! Document 01, Sources and events, and document 02's Paper 5: an event's gain.
 
+use super::mutation::Mutation;
 use crate::call::{Curve, Edit, Push, Source};
 use crate::state::{EditState, EventState, sample_bits};
 
@@ -9,6 +10,7 @@ pub struct Event {
     pub end: f64,
     pub fade_in: f64,
     pub fade_out: f64,
+    pub gain: f32,
     pub curve: Curve,
     pub source: Source,
     pub number: u64,
@@ -25,6 +27,7 @@ impl Event {
             end,
             fade_in: push.fade_in,
             fade_out: push.fade_out,
+            gain: push.gain(),
             curve: push.curve,
             source: push.source,
             number,
@@ -43,8 +46,22 @@ impl Event {
         }
     }
 
-    /// The source's next sample.
-    pub fn give(&mut self, pool: &[f32]) -> f32 {
+    /// "Every event carries an f32 gain, multiplied onto the source's sample before the fades, by one rounding."
+    pub fn give_with_gain(&mut self, pool: &[f32], mutation: Option<Mutation>) -> f32 {
+        let before = (self.value, self.place);
+        let sample = self.give(pool);
+        let product = sample * self.gain;
+        match mutation {
+            Some(Mutation::GainAfterFades) => return sample,
+            Some(Mutation::RampWithGain) => self.value += product - sample,
+            Some(Mutation::GainZeroHolds) if self.gain == 0.0 => (self.value, self.place) = before,
+            _ => {}
+        }
+        product
+    }
+
+    /// The source's next sample; a ramp goes on with its own value.
+    fn give(&mut self, pool: &[f32]) -> f32 {
         match self.source {
             Source::Held { level } => level,
             Source::Ramp { step, .. } => {
@@ -77,6 +94,7 @@ impl Event {
             end: self.end.to_bits(),
             fade_in: self.fade_in.to_bits(),
             fade_out: self.fade_out.to_bits(),
+            gain: sample_bits(self.gain),
             curve: self.curve,
             source: self.source,
             value: sample_bits(self.value),

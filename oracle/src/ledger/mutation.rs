@@ -10,6 +10,12 @@ pub enum Mutation {
     FadeByRate,
     /// Fades are counted from the block's edge, as before document 02's Paper 3.
     FadeFromEdge,
+    /// The gain is multiplied on after the fades.
+    GainAfterFades,
+    /// A ramp goes on with its value times the gain.
+    RampWithGain,
+    /// A source whose gain is 0 does not move.
+    GainZeroHolds,
     /// A push straight to the sounding list takes a stored edit.
     PushTakesEdit,
     /// A reset in mode All empties the edits.
@@ -21,11 +27,14 @@ pub enum Mutation {
 }
 
 impl Mutation {
-    pub const ALL: [Mutation; 8] = [
+    pub const ALL: [Mutation; 11] = [
         Mutation::SwapOrderIgnored,
         Mutation::MovedEventSkipped,
         Mutation::FadeByRate,
         Mutation::FadeFromEdge,
+        Mutation::GainAfterFades,
+        Mutation::RampWithGain,
+        Mutation::GainZeroHolds,
         Mutation::PushTakesEdit,
         Mutation::ResetEmptiesEdits,
         Mutation::BlockAsTicks,
@@ -38,6 +47,9 @@ impl Mutation {
             Mutation::MovedEventSkipped => "moved-event-skipped",
             Mutation::FadeByRate => "fade-by-rate",
             Mutation::FadeFromEdge => "fade-from-edge",
+            Mutation::GainAfterFades => "gain-after-fades",
+            Mutation::RampWithGain => "ramp-with-gain",
+            Mutation::GainZeroHolds => "gain-zero-holds",
             Mutation::PushTakesEdit => "push-takes-edit",
             Mutation::ResetEmptiesEdits => "reset-empties-edits",
             Mutation::BlockAsTicks => "block-as-ticks",

@@ -1,4 +1,4 @@
-//! Document 01, Turned down: each check by its number, the first that is true in front.
+//! Document 01, Turned down, and document 02's 18: each check by its number, the first that is true in front.
 
 use super::engine::Ledger;
 use crate::call::{Edit, Mode, Push, Source};
@@ -30,8 +30,8 @@ fn end_beyond(x: f64) -> bool {
     beyond(x) && x != f64::INFINITY
 }
 
-/// Refusals 3 to 7 of a push that ends at `end`, with `held` events counted.
-pub fn push(push: &Push, end: f64, held: usize, spent: bool) -> [(u8, bool); 5] {
+/// Refusals 3 to 7, 18 directly after 5, of a push that ends at `end`, with `held` events counted.
+pub fn push(push: &Push, end: f64, held: usize, spent: bool) -> [(u8, bool); 6] {
     let length = end - push.start;
     let infinite = match push.source {
         Source::Held { level } => !level.is_finite(),
@@ -44,6 +44,7 @@ pub fn push(push: &Push, end: f64, held: usize, spent: bool) -> [(u8, bool); 5] 
         (3, beyond_limits),
         (4, push.fade_in > length || push.fade_out > length),
         (5, infinite),
+        (18, push.gain().is_nan() || push.gain().is_infinite()),
         (6, held >= 256),
         (7, spent),
     ]

@@ -1,4 +1,4 @@
-//! Document 01, Tick samples and Block samples, and document 02, Paper 3: one event's part.
+//! Document 01, Tick samples and Block samples, and document 02, Papers 3 and 5: one event's part.
 
 use super::event::Event;
 use super::mutation::Mutation;
@@ -14,9 +14,9 @@ pub struct Times {
 }
 
 /// An event's contribution to a tick.
-pub fn tick(event: &mut Event, times: Times, pool: &[f32]) -> f32 {
+pub fn tick(event: &mut Event, times: Times, pool: &[f32], mutation: Option<Mutation>) -> f32 {
     let t = times.t;
-    let mut sample = event.give(pool);
+    let mut sample = event.give_with_gain(pool, mutation);
     if event.fade_in > 0.0 {
         let full = event.start + event.fade_in;
         let phase = narrow((t - event.start) / (full - event.start));
@@ -30,6 +30,9 @@ pub fn tick(event: &mut Event, times: Times, pool: &[f32]) -> f32 {
         if phase > 0.0 {
             sample *= curve(event.curve, 1.0 - phase);
         }
+    }
+    if mutation == Some(Mutation::GainAfterFades) {
+        sample *= event.gain;
     }
     sample
 }
@@ -56,9 +59,14 @@ pub fn block(
     if z <= s {
         return (Vec::new(), s);
     }
-    let mut run: Vec<f32> = (s..z).map(|_| event.give(pool)).collect();
+    let mut run: Vec<f32> = (s..z)
+        .map(|_| event.give_with_gain(pool, mutation))
+        .collect();
     fade_in(event, &mut run, s, z, times, mutation);
     fade_out(event, &mut run, s, z, times, mutation);
+    if mutation == Some(Mutation::GainAfterFades) {
+        run.iter_mut().for_each(|sample| *sample *= event.gain);
+    }
     (run, s)
 }
 

@@ -7,12 +7,13 @@ use crate::units;
 
 impl Event {
     pub(crate) fn state(&self) -> EventState {
-        let (source, value, place) = units::place(&*self.unit);
+        let (source, gain, value, place) = units::place(&*self.unit);
         EventState {
             start: self.start_time.to_bits(),
             end: self.end_time.to_bits(),
             fade_in: self.fade_in.to_bits(),
             fade_out: self.fade_out.to_bits(),
+            gain: gain.to_bits(),
             curve: match self.fade_ease {
                 Fade::Power => Curve::Power,
                 Fade::Smooth => Curve::Smooth,

@@ -18,9 +18,9 @@ use Rattle.realseq.proofs.SequencerBackend.push_refusal.Tie as tie
 few : (n : ℕ) (q : Messages) (k : ℕ) → n ≡ tallied q k → n ≤ 64
 few n q k h = omega (arith, tallied-le q k, h)
 
-module _ (d : SequencerBackend) (start end lasts fade-in fade-out : Float) (source : Source) where
+module _ (d : SequencerBackend) (start end lasts fade-in fade-out : Float) (source : Source) (gain : Float) where
   abbrev no : (held : ℕ) → ℕ
-  no held = pushRefusal start end lasts fade-in fade-out source held (d .sequencer .next)
+  no held = pushRefusal start end lasts fade-in fade-out source gain held (d .sequencer .next)
 
   abbrev all : ℕ
   all = min (d .sequencer .«ready_len» + (d .sequencer .«active_len» + d .sequencer .«past_len»)) 256 + tallied (d .messages) 1
@@ -29,15 +29,15 @@ module _ (d : SequencerBackend) (start end lasts fade-in fade-out : Float) (sour
     same : k ≡ no all
     same = h ∙ ap no (rw (ha, hb))
 
-    other : (k ≡ 0 → ⊥) → k ≡ pushRefused d start end lasts fade-in fade-out source
+    other : (k ≡ 0 → ⊥) → k ≡ pushRefused d start end lasts fade-in fade-out source gain
     unfolding pushRefused
     other s = or-other k (no all) same d s
 
-    full : k ≡ 0 → 64 ≤ d .messages .count → 13 ≡ pushRefused d start end lasts fade-in fade-out source
+    full : k ≡ 0 → 64 ≤ d .messages .count → 13 ≡ pushRefused d start end lasts fade-in fade-out source gain
     unfolding pushRefused
     full z l = or-13 k (no all) same d z l
 
-    fine : k ≡ 0 → d .messages .count < 64 → 0 ≡ pushRefused d start end lasts fade-in fade-out source
+    fine : k ≡ 0 → d .messages .count < 64 → 0 ≡ pushRefused d start end lasts fade-in fade-out source gain
     unfolding pushRefused
     fine z l = or-0 k (no all) same d z l
 
@@ -47,19 +47,19 @@ add-n c = omega (arith, c .before .held .ensures, few (c .tally .result) _ _ (c 
 returns : tie.Need-returns
 returns c =
     let p = c .before in
-    other _ _ _ _ _ _ _ _ _ _ (p .before .before .held .ensures) (p .before .tally .ensures) (p .push-refusal .ensures) (c .if1 .taken)
+    other _ _ _ _ _ _ _ _ _ _ _ (p .before .before .held .ensures) (p .before .tally .ensures) (p .push-refusal .ensures) (c .if1 .taken)
 
 returns-2 : tie.Need-returns-2
 returns-2 c =
     let e = c .before .before in
     let p = e .before in
-    full _ _ _ _ _ _ _ _ _ _ (p .before .before .held .ensures) (p .before .tally .ensures) (p .push-refusal .ensures) (e .if1 .left) (c .if2 .taken)
+    full _ _ _ _ _ _ _ _ _ _ _ (p .before .before .held .ensures) (p .before .tally .ensures) (p .push-refusal .ensures) (e .if1 .left) (c .if2 .taken)
 
 returns-3 : tie.Need-returns-3
 returns-3 c =
     let e = c .before .before in
     let p = e .before in
-    fine _ _ _ _ _ _ _ _ _ _ (p .before .before .held .ensures) (p .before .tally .ensures) (p .push-refusal .ensures) (e .if1 .left) (c .if2 .left)
+    fine _ _ _ _ _ _ _ _ _ _ _ (p .before .before .held .ensures) (p .before .tally .ensures) (p .push-refusal .ensures) (e .if1 .left) (c .if2 .left)
 
 pub push-refusal-spec : {M : Type 1} → statement M
 push-refusal-spec =
