@@ -1,6 +1,6 @@
 //! Playing one tape on two players and comparing everything after each record.
 
-use crate::player::{BLOCK, Player, Pool};
+use crate::player::{Player, Pool};
 use crate::session::{Session, Step};
 use crate::state::{State, sample_bits};
 use crate::tape::{self, Format, Stop};
@@ -119,13 +119,10 @@ fn compare<A: Player, B: Player>(
             .scratch_given()
             .or(b.player.scratch_given())
             .unwrap_or(0),
-        None => BLOCK,
+        None => a.scratch.len(),
     };
-    for (a, b) in a.scratch.chunks(BLOCK).zip(b.scratch.chunks(BLOCK)) {
-        let decided = decided.min(a.len());
-        memory("scratch", &a[..decided], &b[..decided])?;
-    }
-    Ok(())
+    let decided = decided.min(a.scratch.len());
+    memory("scratch", &a.scratch[..decided], &b.scratch[..decided])
 }
 
 fn equal<T: PartialEq + std::fmt::Debug>(name: &str, a: &T, b: &T) -> Result<(), String> {

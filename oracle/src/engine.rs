@@ -141,14 +141,15 @@ pub fn process(unit: &mut impl AudioUnit, size: usize, output: &mut [f32], pool:
     store(&buffer, output);
 }
 
-/// Before a block: the lent scratch becomes the original's own.
+/// Before a block: the lent scratch, of one channel, becomes the original's own first one. The original has one for each channel, all
+/// with the same samples.
 pub fn load_scratch(sequencer: &mut Sequencer, scratch: Option<&[f32]>) {
     if let Some(samples) = scratch {
         load(&mut sequencer.scratch(), samples);
     }
 }
 
-/// After a block: the original's scratch goes back to the lender.
+/// After a block: the original's first channel of scratch goes back to the lender.
 pub fn store_scratch(sequencer: &mut Sequencer, scratch: Option<&mut [f32]>) {
     if let Some(samples) = scratch {
         store(&sequencer.scratch(), samples);

@@ -56,6 +56,6 @@ pub trait Player: Sized {
     fn channels(&self) -> usize;
     fn counts(&self) -> Counts;
     fn state(&self) -> State;
-    /// Per channel, how many first places of a lent scratch the last call decides.
+    /// How many first places of a lent scratch, which has 64 samples, the last call decides.
     fn scratch_given(&self) -> Option<usize>;
 }

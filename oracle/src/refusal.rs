@@ -80,9 +80,9 @@ pub fn block(
     scratch: Option<usize>,
     clock_after: f64,
 ) -> Check {
-    let whole = BLOCK * channels;
+    // document 02, Paper 7: a lent scratch has 64 samples, whatever the channels
     refuse_if(
-        output != whole || scratch.is_some_and(|length| length != whole),
+        output != BLOCK * channels || scratch.is_some_and(|length| length != BLOCK),
         10,
     )?;
     refuse_if(size > BLOCK, 11)?;

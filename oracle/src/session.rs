@@ -67,7 +67,7 @@ impl<P: Player> Session<P> {
             Call::Edit(timing, ref edit) => self.player.edit(timing, edit),
             Call::Tick => return self.tick(channels),
             Call::Block(size) => {
-                return self.block(size.into(), BLOCK * channels, Some(BLOCK * channels));
+                return self.block(size.into(), BLOCK * channels, Some(BLOCK));
             }
             Call::Reset => self.player.reset(),
             Call::Rate(rate) => self.player.rate(rate),

@@ -105,8 +105,8 @@ unfolding tickRefusal refusal checks tickEnd
 tick-refused l pool out c t d p q r = rw (p, q, r) (agrees (checks l (tick pool out)) (tt, (tt, tt)))
 
 -- 64 × c, tested by division
-rows : (n c : ℕ) → (eqb (n % 64) 0 && eqb (n / 64) c) ≡ (eqb n (64 * c) && eqb (64 * c) (64 * c))
-rows n c = rw (eq-eqb (64 * c) (64 * c) refl) (go (ℕ-discrete n (64 * c)))
+rows : (n c : ℕ) → (eqb (n % 64) 0 && eqb (n / 64) c) ≡ (eqb n (64 * c) && true)
+rows n c = go (ℕ-discrete n (64 * c))
   where
     left : (b : Bool) → eqb (n % 64) 0 ≡ b → (n ≡ 64 * c → ⊥) → (b && eqb (n / 64) c) ≡ false
     left true p h = ne-eqb (n / 64) c (λ q. h (omega (arith, eqb-true (n % 64) 0 p)))

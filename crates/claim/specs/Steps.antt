@@ -255,7 +255,7 @@ module _ (s : Sequencer) (l : Ledger) (n : ℕ) (pool out : List Float) where
       carried : refusal l C ≡ none → Keeps (X true) (accept l C)
       carried q =
           let p = passed l C q in
-          let long : length out ≡ 64 * l .channels = eqb→eq (length out) (64 * l .channels) (first-of (eqb (length out) (64 * l .channels)) (eqb (64 * l .channels) (64 * l .channels)) (p .0)) in
+          let long : length out ≡ 64 * l .channels = eqb→eq (length out) (64 * l .channels) (first-of (eqb (length out) (64 * l .channels)) true (p .0)) in
           let rows : length out / 64 ≡ l .channels = omega arith in
           let k = same (nltb→le 64 n (p .1 .0)) in
           (k .0, record { answer = refl; out = ap (λ (x : List Float). overlay (length out / 64) x out) (k .1) ∙ ap (λ (c : ℕ). overlay c (Sum .channel) out) rows; scratch = tt })

@@ -438,7 +438,7 @@ kept-free l m (tick pool out) k u a b h = (
   (yes-not-not (tickEnd m ≤ᶠ whole 1_000_000_000) (tick-free l m k u a b (not-not (tickEnd l ≤ᶠ whole 1_000_000_000) (h .1 .0))), tt),
 )
 kept-free l m (block n pool out) k u a b h = (
-  subst (λ (c : ℕ). T (not (not (eqb (length out) (64 * c) && eqb (64 * c) (64 * c))))) (sym (k .channels)) (h .0),
+  subst (λ (c : ℕ). T (not (not (eqb (length out) (64 * c) && true)))) (sym (k .channels)) (h .0),
   (
     h .1 .0,
     (yes-not-not (blockEnd m n ≤ᶠ whole 1_000_000_000) (block-free l m n k u a b (nltb→le 64 n (h .1 .0)) (not-not (blockEnd l n ≤ᶠ whole 1_000_000_000) (h .1 .1 .0))), tt),

@@ -118,7 +118,7 @@ afterBlock b e =
     let z = endPlace b e in
     cond (ltb s z) (withUnit (advancedBy (e .unit) (z - s)) e) e
 
--- ---- all sounding events, in S order: one channel, the last run given (each channel of a scratch has the same), and the events after the block
+-- ---- all sounding events, in S order: one channel, the run given last, and the events after the block
 
 pub record BlockSum : Type 0 where
   pub channel : List Float
@@ -136,9 +136,10 @@ unfoldable pub overlay : (c : ℕ) → (run lent : List Float) → List Float
 overlay zero run l = l
 overlay (suc c) run l = run ++ (drop (length run) (take 64 l) ++ overlay c run (drop 64 l))
 
-abbrev pub overlayScratch : (c : ℕ) → (run : List Float) → Option (List Float) → Option (List Float)
-overlayScratch c run none = none
-overlayScratch c run (some l) = some (overlay c run l)
+-- Paper 7: "A block now gets 64 scratch samples in place of 64 for every channel": the run given last over its first places, the rest remains
+abbrev pub overlayScratch : (run : List Float) → Option (List Float) → Option (List Float)
+overlayScratch run none = none
+overlayScratch run (some l) = some (run ++ drop (length run) l)
 
 -- What a case that computes must unfold.
 unfoldable pub computes : Unit {0}

@@ -39,7 +39,7 @@ pub data Answer : Type 0 where
   applied past stored done : Answer
   refused : ℕ → Answer
 
--- What a call gives back: its answer, and what was lent to be written. Of a lent scratch the first `filled` places of each channel count: the samples given (of a refused call all 64).
+-- What a call gives back: its answer, and what was lent to be written. Of a lent scratch the first `filled` places count: the samples given (of a refused call all 64).
 pub record Reply : Type 0 where
   pub answer : Answer
   pub out : List Float

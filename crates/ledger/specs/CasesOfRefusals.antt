@@ -127,7 +127,7 @@ pub refusal-9 : drop 259 (answersOf (run (rate oneᶠ ∷ held1 zeroᶠ +∞ zer
 unfolding run fresh edits neg
 refusal-9 = refl
 
--- ---- 10. "Output length is not channels (tick) or 64 × channels (block), or a block's scratch, where it is lent, is not 64 × channels long." Two channels; the last two answers are those of too long a block with too short an output.
+-- ---- 10. "Output length is not channels (tick) or 64 × channels (block), or a block's scratch, where it is lent", is not 64 long (Paper 7). Two channels; the last two answers are those of too long a block with too short an output, and with a scratch of 64 × channels.
 
 abbrev tickInto : (length : ℕ) → Call
 tickInto n = tick [] (replicate n halfᶠ)
@@ -139,8 +139,8 @@ unfoldable pub stereo : List Call → List Reply
 unfolding run fresh
 stereo cs = run cs (fresh 2 All 1) .replies
 
-pub refusal-10 : answersOf (stereo (tickInto 2 ∷ tickInto 1 ∷ tickInto 3 ∷ blockInto 1 128 none ∷ blockInto 1 127 none ∷ blockInto 1 64 none ∷ blockInto 1 129 none ∷ blockInto 1 128 (some (replicate 128 halfᶠ)) ∷ blockInto 1 128 (some (replicate 127 halfᶠ)) ∷ blockInto 1 128 (some []) ∷ blockInto 65 127 none ∷ []))
-    ≡ done ∷ refused 10 ∷ refused 10 ∷ done ∷ refused 10 ∷ refused 10 ∷ refused 10 ∷ done ∷ refused 10 ∷ refused 10 ∷ refused 10 ∷ []
+pub refusal-10 : answersOf (stereo (tickInto 2 ∷ tickInto 1 ∷ tickInto 3 ∷ blockInto 1 128 none ∷ blockInto 1 127 none ∷ blockInto 1 64 none ∷ blockInto 1 129 none ∷ blockInto 1 128 (some (replicate 64 halfᶠ)) ∷ blockInto 1 128 (some (replicate 63 halfᶠ)) ∷ blockInto 1 128 (some (replicate 128 halfᶠ)) ∷ blockInto 1 128 (some []) ∷ blockInto 65 127 none ∷ blockInto 65 128 (some (replicate 128 halfᶠ)) ∷ []))
+    ≡ done ∷ refused 10 ∷ refused 10 ∷ done ∷ refused 10 ∷ refused 10 ∷ refused 10 ∷ done ∷ refused 10 ∷ refused 10 ∷ refused 10 ∷ refused 10 ∷ refused 10 ∷ []
 unfolding stereo
 refusal-10 = refl
 
@@ -172,7 +172,7 @@ unfolding ledgerOf
 refused-changes-nothing = (refl, refl, refl, refl, refl, refl)
 
 -- the output and scratch of a refused tick and block
-pub refused-writes-nothing : stereo (tickInto 1 ∷ blockInto 65 128 (some (replicate 128 oneᶠ)) ∷ [])
-    ≡ record { answer = refused 10; out = halfᶠ ∷ []; scratch = none; filled = 64 } ∷ record { answer = refused 11; out = replicate 128 halfᶠ; scratch = some (replicate 128 oneᶠ); filled = 64 } ∷ []
+pub refused-writes-nothing : stereo (tickInto 1 ∷ blockInto 65 128 (some (replicate 64 oneᶠ)) ∷ [])
+    ≡ record { answer = refused 10; out = halfᶠ ∷ []; scratch = none; filled = 64 } ∷ record { answer = refused 11; out = replicate 128 halfᶠ; scratch = some (replicate 64 oneᶠ); filled = 64 } ∷ []
 unfolding stereo
 refused-writes-nothing = refl

@@ -86,9 +86,9 @@ run-given = oneᶠ ∷ fin false 3 (negsuc 0) ∷ lent 62
 
 unfoldable pub blockReplies : (n : ℕ) → List Reply
 unfolding run fresh whole
-blockReplies n = run (clip-and-ramp ++ (block n pool (lent 128) (some (lent 128)) ∷ [])) (fresh 2 All 1) .replies
+blockReplies n = run (clip-and-ramp ++ (block n pool (lent 128) (some (lent 64)) ∷ [])) (fresh 2 All 1) .replies
 
-pub block-outputs : lastReply (blockReplies 3) ≡ some (record { answer = done; out = row ++ row; scratch = some (run-given ++ run-given); filled = 2 })
+pub block-outputs : lastReply (blockReplies 3) ≡ some (record { answer = done; out = row ++ row; scratch = some run-given; filled = 2 })
 unfolding blockReplies
 block-outputs = refl
 

@@ -99,12 +99,12 @@ pub record SameState (v : View) (l : Ledger) : Type 0 where
   pub channels : v .channels ≡ l .channels
   pub mode : v .mode ≡ l .mode
 
--- a lent scratch, of 64 places for each channel c, up to the k samples given
+-- a lent scratch, up to the k samples given
 abbrev pub SameScratch : (k : ℕ) → (a b : Option (List Float)) → Type 0
 SameScratch k none none = Unit {0}
 SameScratch k none (some b) = ⊥
 SameScratch k (some a) none = ⊥
-SameScratch k (some a) (some b) = (length a ≡ length b) × ((c j : ℕ) → j < k → getD a (64 * c + j) zeroᶠ ≡ getD b (64 * c + j) zeroᶠ)
+SameScratch k (some a) (some b) = (length a ≡ length b) × ((j : ℕ) → j < k → getD a j zeroᶠ ≡ getD b j zeroᶠ)
 
 -- the answer or refusal, the whole output lent back, and a lent scratch up to the samples given, NaN bits aside: the logic has one NaN
 pub record SameReply (a b : Reply) : Type 0 where

@@ -176,16 +176,38 @@ length-faded c rising from to phase step l =
     length-all phase [] = refl
     length-all phase (x ∷ l) = ap suc (length-all (phase +ˢ step) l)
 
-length-faded-in : (b : Span) (s z : ℕ) (e : Event) (l : List Float) → length (runFadedIn b s z e l) ≡ length l
-unfolding runFadedIn
-length-faded-in b s z e l = go (zeroᶠ <ᶠ e .«fade_in» && b .clock <ᶠ (e .«start_time» +ᵈ e .«fade_in»))
-  where
-    run : List Float
-    run = faded (e .«fade_ease») true 0 (fadeInPlace b z e - s) (phaseAt b s (e .«start_time») (e .«start_time» +ᵈ e .«fade_in»)) (phaseStep b (e .«fade_in»)) l
+module _ (b : Span) (s z : ℕ) (e : Event) (l : List Float) where
+  length-faded-in : length (runFadedIn b s z e l) ≡ length l
+  unfolding runFadedIn
+  length-faded-in = go (zeroᶠ <ᶠ e .«fade_in» && b .clock <ᶠ top)
+    where
+      top : Float
+      top = e .«start_time» +ᵈ e .«fade_in»
 
-    go : (t : Bool) → length (cond t run l) ≡ length l
-    go true = length-faded (e .«fade_ease») true 0 (fadeInPlace b z e - s) _ _ l
-    go false = refl
+      go : (t : Bool) → length (cond t (faded (e .«fade_ease») true 0 (fadeInPlace b z e - s) (phaseAt b s (e .«start_time») top) (phaseStep b (e .«fade_in»)) l) l) ≡ length l
+      go true = length-faded (e .«fade_ease») true 0 (fadeInPlace b z e - s) _ _ l
+      go false = refl
+
+  length-faded-out : length (runFadedOut b s z e l) ≡ length l
+  unfolding runFadedOut
+  length-faded-out = go (zeroᶠ <ᶠ e .«fade_out» && bottom <ᶠ b .upto)
+    where
+      bottom : Float
+      bottom = e .«end_time» -ᵈ e .«fade_out»
+
+      i : ℕ
+      i = max (fadeOutPlace b e) s
+
+      go : (t : Bool) → length (cond t (faded (e .«fade_ease») false (i - s) (z - s) (phaseAt b i bottom (e .«end_time»)) (phaseStep b (e .«fade_out»)) l) l) ≡ length l
+      go true = length-faded (e .«fade_ease») false (i - s) (z - s) _ _ l
+      go false = refl
+
+-- a run has z - s samples
+pub length-faded-run : (pool : List Float) (b : Span) (s z : ℕ) (e : Event) → length (fadedRun pool b s z e) ≡ z - s
+length-faded-run pool b s z e =
+    let us : List Float = given pool (e .unit) (z - s) in
+    let xs : List Float = gained (e .gain) us in
+    length-faded-out b s z e (runFadedIn b s z e xs) ∙ length-faded-in b s z e xs ∙ length-map us (λ x. x ×ˢ e .gain) ∙ length-made (sampleOf pool) advanced (e .unit) (z - s)
 
 -- The sample at scratch place k, which is block place s + k: the source's times the gain (Paper 5), then the fades.
 pub fades-by-place : (pool : List Float) (b : Span) (s z : ℕ) (e : Event) (k : ℕ) → s + k < z

@@ -64,7 +64,7 @@ same-state n l = record {
 
 same-scratch : (k : ℕ) (s : Option (List Float)) → SameScratch k s s
 same-scratch k none = tt
-same-scratch k (some l) = (refl, λ c j h. refl)
+same-scratch k (some l) = (refl, λ j h. refl)
 
 pub same-reply : (r : Reply) → SameReply r r
 same-reply r = record { answer = refl; out = refl; scratch = same-scratch (r .filled) (r .scratch) }

@@ -47,7 +47,7 @@ blocked l n out scratch r = record {
   reply = record {
     answer = done;
     out = overlay (l .channels) (r .channel) out;
-    scratch = overlayScratch (l .channels) (r .scratch) scratch;
+    scratch = overlayScratch (r .scratch) scratch;
     filled = length (r .scratch);
   };
 }

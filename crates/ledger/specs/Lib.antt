@@ -12,8 +12,10 @@ pub mod CasesOfLists
 pub mod CasesOfRefusals
 pub mod CasesOfSamples
 pub mod CasesOfFades
+pub mod WithinBlock
 pub mod FadesByPlace
 pub mod CasesOfGains
+pub mod FormerMethod
 pub mod Numbers
 pub mod FloatOrder
 pub mod NotNan

@@ -105,7 +105,7 @@ editChecks l kind k end fade-out =
     ∷ refuses 9 (not (has k (l .sounding)) && not (editEnd kind (l .clock) end <ᶠ l .threshold)
     && missing (editOf k (l .edits)) && leb 256 (length (l .edits))) ∷ []
 
--- 10: output length is not channels (tick) or 64 × channels (block), or a block's scratch, where it is lent, is not 64 × channels long. 11: block size exceeds 64.
+-- 10: output length is not channels (tick) or 64 × channels (block), or a block's scratch, where it is lent, is not 64 long (document 02, Paper 7). 11: block size exceeds 64.
 -- 12: the clock after the step would exceed 1,000,000,000. 2: a rate is not from 1 to 1,000,000.
 unfoldable pub checks : Ledger → Call → List Check
 unfolding pushChecks editChecks tickEnd blockEnd le whole
@@ -115,7 +115,7 @@ checks l (tick pool out) =
     refuses 10 (not (eqb (length out) (l .channels)))
     ∷ refuses 12 (not (tickEnd l ≤ᶠ whole 1_000_000_000)) ∷ []
 checks l (block n pool out scratch) =
-    refuses 10 (not (eqb (length out) (64 * l .channels) && eqb (lengthOr (64 * l .channels) scratch) (64 * l .channels)))
+    refuses 10 (not (eqb (length out) (64 * l .channels) && eqb (lengthOr 64 scratch) 64))
     ∷ refuses 11 (ltb 64 n)
     ∷ refuses 12 (not (blockEnd l n ≤ᶠ whole 1_000_000_000)) ∷ []
 checks l (rate r) = refuses 2 (not (oneᶠ ≤ᶠ r && r ≤ᶠ whole 1_000_000)) ∷ []

@@ -168,7 +168,7 @@ accept l (block n pool out scratch) =
       reply = record {
         answer = done;
         out = overlay (l .channels) (r .channel) out;
-        scratch = overlayScratch (l .channels) (r .scratch) scratch;
+        scratch = overlayScratch (r .scratch) scratch;
         filled = length (r .scratch);
       };
     }

@@ -113,8 +113,8 @@ lists1 =
           ∷ (push absolute (fin false 0 (pos 0)) (fin false 2305845315059009 (negsuc 57)) (fin false 0 (pos 0)) (fin false 2305845315059009 (negsuc 57)) Power (Clip 0 9) (fin false 1 (pos 0)), says (number 1))
           ∷ (push byDuration (fin true 0 (pos 0)) (fin false 4611690630118019 (negsuc 61)) (fin false 0 (pos 0)) (fin false 0 (pos 0)) Power (Held (fin false 11744051 (negsuc 23))) (fin false 1 (pos 0)), says (number 2))
           ∷ (push absolute (fin true 2305845315059009 (negsuc 61)) (fin false 2305845315059009 (negsuc 57)) (fin false 2305845315059009 (negsuc 58)) (fin false 2449960647250197 (negsuc 57)) Smooth (Clip 4294967295 5) (fin false 1 (pos 0)), says (number 3))
-          ∷ (block 4 pool (quarters 128) (some (quarters 128)), blocks 2 (1067030938 ∷ 3208397757 ∷ 1068579604 ∷ 1034552779 ∷ 0 ∷ 0 ∷ 0 ∷ 0 ∷ []) (1056964609 ∷ 3208397757 ∷ 1068579604 ∷ 1034552779 ∷ []))
-          ∷ (block 6 pool (quarters 128) (some (quarters 128)), blocks 2 (3216290997 ∷ 1042975635 ∷ 1053057585 ∷ 0 ∷ 0 ∷ 0 ∷ 0 ∷ 0 ∷ []) (3216290997 ∷ 1042975635 ∷ 1053057585 ∷ 0 ∷ 1048576000 ∷ 1048576000 ∷ []))
+          ∷ (block 4 pool (quarters 128) (some (quarters 64)), blocks 2 (1067030938 ∷ 3208397757 ∷ 1068579604 ∷ 1034552779 ∷ 0 ∷ 0 ∷ 0 ∷ 0 ∷ []) (1056964609 ∷ 3208397757 ∷ 1068579604 ∷ 1034552779 ∷ []))
+          ∷ (block 6 pool (quarters 128) (some (quarters 64)), blocks 2 (3216290997 ∷ 1042975635 ∷ 1053057585 ∷ 0 ∷ 0 ∷ 0 ∷ 0 ∷ 0 ∷ []) (3216290997 ∷ 1042975635 ∷ 1053057585 ∷ 0 ∷ 1048576000 ∷ 1048576000 ∷ []))
           ∷ (edit absoluteEnd 2 (fin false 8070458602706531 (negsuc 58)) (fin false 6917535945177027 (negsuc 60)), says stored)
           ∷ (edit relativeEnd 1 (inf false) (fin false 0 (pos 0)), says applied)
           ∷ (push byDuration (fin false 2882306643823761 (negsuc 57)) (fin false 2305845315059009 (negsuc 59)) (fin true 1 (pos 0)) (fin false 0 (pos 0)) Smooth (Held (fin false 3 (pos 0))) (fin false 1 (pos 0)), says (number 4))
@@ -134,7 +134,7 @@ lists1 =
           ∷ (push absolute (fin true 2573485501354569 (negsuc 54)) (inf false) (fin false 0 (pos 0)) (fin false 6032057205060441 (negsuc 1048)) Power (Ramp (fin true 0 (pos 0)) (fin false 1 (negsuc 0))) (fin false 1 (pos 0)), says (number 3))
           ∷ (push relative (fin false 0 (pos 0)) (fin false 3699385408197193 (negsuc 50)) (fin false 3699385408197193 (negsuc 50)) (fin false 0 (pos 0)) Power (Ramp (fin false 8589935 (negsuc 32)) (fin false 8589935 (negsuc 32))) (fin false 1 (pos 0)), says (number 4))
           ∷ (push absolute (fin true 1 (negsuc 1073)) (fin false 2573485501354569 (negsuc 54)) (fin false 0 (pos 0)) (fin true 0 (pos 0)) Power (Clip 4294967295 9) (fin false 1 (pos 0)), says (number 5))
-          ∷ (block 5 pool (quarters 192) (some (quarters 192)), blocks 3 (0 ∷ 1056969227 ∷ 1065360043 ∷ 1069560914 ∷ 1073752717 ∷ 0 ∷ 0 ∷ 0 ∷ []) (0 ∷ 965761327 ∷ 978672406 ∷ 986793851 ∷ 992621943 ∷ []))
+          ∷ (block 5 pool (quarters 192) (some (quarters 64)), blocks 3 (0 ∷ 1056969227 ∷ 1065360043 ∷ 1069560914 ∷ 1073752717 ∷ 0 ∷ 0 ∷ 0 ∷ []) (0 ∷ 965761327 ∷ 978672406 ∷ 986793851 ∷ 992621943 ∷ []))
           ∷ (tick pool (quarters 3), ticks 3 1075854835)
           ∷ (rate (fin false 375 (pos 7)), says done)
           ∷ [];
@@ -215,12 +215,12 @@ lists2 =
           ∷ (push relative (fin false 2476979795053773 (negsuc 48)) (fin false 5573204538870989 (negsuc 48)) (fin false 0 (pos 0)) (fin false 1 (pos 1)) Power (Clip 0 0) (fin false 1 (pos 0)), says (number 18446744073709551613))
           ∷ (push relative (fin false 4503599627370497 (negsuc 51)) (fin false 3490289711212135 (negsuc 50)) (fin false 0 (pos 0)) (fin false 0 (pos 0)) Power (Held (fin false 11744051 (negsuc 23))) (fin false 1 (pos 0)), says (number 18446744073709551614))
           ∷ (tick pool (quarters 0), says (refused 10))
-          ∷ (block 6 pool (quarters 192) (some (quarters 192)), blocks 3 (0 ∷ 1060320051 ∷ 0 ∷ 0 ∷ 0 ∷ 0 ∷ 0 ∷ 0 ∷ []) (0 ∷ 0 ∷ 1048576000 ∷ 1048576000 ∷ 1048576000 ∷ 1048576000 ∷ []))
-          ∷ (block 1 pool (quarters 192) (some (quarters 192)), blocks 3 (0 ∷ 0 ∷ 0 ∷ 0 ∷ 0 ∷ 0 ∷ 0 ∷ 0 ∷ []) (0 ∷ []))
+          ∷ (block 6 pool (quarters 192) (some (quarters 64)), blocks 3 (0 ∷ 1060320051 ∷ 0 ∷ 0 ∷ 0 ∷ 0 ∷ 0 ∷ 0 ∷ []) (0 ∷ 0 ∷ 1048576000 ∷ 1048576000 ∷ 1048576000 ∷ 1048576000 ∷ []))
+          ∷ (block 1 pool (quarters 192) (some (quarters 64)), blocks 3 (0 ∷ 0 ∷ 0 ∷ 0 ∷ 0 ∷ 0 ∷ 0 ∷ 0 ∷ []) (0 ∷ []))
           ∷ (edit absoluteEnd 18446744073709551613 (fin false 11 (pos 0)) (fin false 6755399441055743 (negsuc 50)), says applied)
           ∷ (tick pool (quarters 3), ticks 3 0)
           ∷ (edit relativeEnd 18446744073709551613 (inf false) (fin false 0 (pos 0)), says applied)
-          ∷ (block 8 pool (quarters 192) (some (quarters 192)), blocks 3 (0 ∷ 0 ∷ 0 ∷ 0 ∷ 0 ∷ 0 ∷ 0 ∷ 0 ∷ []) (0 ∷ 0 ∷ 0 ∷ 0 ∷ 0 ∷ 0 ∷ 0 ∷ 0 ∷ []))
+          ∷ (block 8 pool (quarters 192) (some (quarters 64)), blocks 3 (0 ∷ 0 ∷ 0 ∷ 0 ∷ 0 ∷ 0 ∷ 0 ∷ 0 ∷ []) (0 ∷ 0 ∷ 0 ∷ 0 ∷ 0 ∷ 0 ∷ 0 ∷ 0 ∷ []))
           ∷ (push absolute (fin true 1 (pos 0)) (fin false 5 (pos 0)) (fin false 7 (negsuc 0)) (fin false 0 (pos 0)) Power (Held (fin false 1 (pos 0))) (fin false 1 (pos 0)), says (number 18446744073709551615))
           ∷ [];
       state = 0 ∷ 2 ∷ 1 ∷ 0 ∷ 4625196817309499392 ∷ 4624915342332788736 ∷ 4607182418800017408 ∷ 4607182418800017408 ∷ 18446744073709551616 ∷ 18446744073709551613 ∷ 4616639978017495450
@@ -257,9 +257,9 @@ lists2 =
       calls = (rate (fin false 3 (pos 0)), says done)
           ∷ (push absolute (fin false 1501199875790165 (negsuc 52)) (fin false 6004799503160661 (negsuc 52)) nan (fin false 0 (pos 0)) Smooth (Held (fin false 1 (negsuc 0))) (fin false 1 (pos 0)), says (refused 3))
           ∷ (push absolute (fin false 1501199875790165 (negsuc 52)) (fin false 1 (pos 0)) (fin false 7505999378950827 (negsuc 52)) (fin false 0 (pos 0)) Smooth (Held (fin true 0 (pos 0))) (fin false 1 (pos 0)), says (number 1))
-          ∷ (block 3 pool (quarters 192) (some (quarters 192)), blocks 3 (0 ∷ 0 ∷ 0 ∷ 0 ∷ 0 ∷ 0 ∷ 0 ∷ 0 ∷ []) (0 ∷ 2147483648 ∷ 2147483648 ∷ []))
+          ∷ (block 3 pool (quarters 192) (some (quarters 64)), blocks 3 (0 ∷ 0 ∷ 0 ∷ 0 ∷ 0 ∷ 0 ∷ 0 ∷ 0 ∷ []) (0 ∷ 2147483648 ∷ 2147483648 ∷ []))
           ∷ (tick pool (quarters 3), ticks 3 0)
-          ∷ (block 1 pool (quarters 0) (some (quarters 192)), says (refused 10))
+          ∷ (block 1 pool (quarters 0) (some (quarters 64)), says (refused 10))
           ∷ (push absolute (fin false 6004799503160661 (negsuc 51)) (fin false 3190049736054101 (negsuc 49)) (fin false 0 (pos 0)) (fin false 6004799503160661 (negsuc 53)) Power (Held (fin false 13421773 (negsuc 26))) (fin false 1 (pos 0)), says (number 2))
           ∷ [];
       state = 1 ∷ 0 ∷ 1 ∷ 0 ∷ 4608683618675807573 ∷ 4607933018737912490 ∷ 4613937818241073152 ∷ 4599676419421066581 ∷ 3 ∷ 2 ∷ 4608683618675807573 ∷ 4613562518272125610 ∷ 0 ∷ 4599676419421066581 ∷ 0
@@ -274,8 +274,8 @@ lists2 =
       calls = (rate (fin false 5 (pos 1)), says done)
           ∷ (push byDuration (fin false 0 (pos 0)) (fin false 5404319552844595 (negsuc 53)) (fin false 6490371073168535 (negsuc 108)) (fin false 0 (pos 0)) Smooth (Ramp (fin false 8589935 (negsuc 32)) (fin false 8589935 (negsuc 32))) (fin false 1 (pos 0)), says (number 1))
           ∷ (push relative (fin true 3602879701896397 (negsuc 55)) (fin false 2589569785738035 (negsuc 50)) (fin false 0 (pos 0)) (fin false 5404319552844595 (negsuc 54)) Power (Ramp (fin false 13421773 (negsuc 26)) (fin false 1 (pos 0))) (fin false 1 (pos 0)), says (number 2))
-          ∷ (block 0 pool (quarters 128) (some (quarters 128)), blocks 2 ([]) ([]))
-          ∷ (block 2 pool (quarters 128) (some (quarters 128)), blocks 2 (1036966167 ∷ 1066208854 ∷ 0 ∷ 0 ∷ 0 ∷ 0 ∷ 0 ∷ 0 ∷ []) (981668463 ∷ 990057071 ∷ []))
+          ∷ (block 0 pool (quarters 128) (some (quarters 64)), blocks 2 ([]) ([]))
+          ∷ (block 2 pool (quarters 128) (some (quarters 64)), blocks 2 (1036966167 ∷ 1066208854 ∷ 0 ∷ 0 ∷ 0 ∷ 0 ∷ 0 ∷ 0 ∷ []) (981668463 ∷ 990057071 ∷ []))
           ∷ (rate (fin false 5 (pos 1)), says done)
           ∷ (reset, says done)
           ∷ (push relative (fin false 5404319552844595 (negsuc 54)) (fin false 2476979795053773 (negsuc 51)) (fin true 1 (pos 0)) (fin false 0 (pos 0)) Smooth (Ramp (inf false) (fin false 3 (pos 0))) (fin false 1 (pos 0)), says (refused 5))
@@ -297,13 +297,13 @@ lists2 =
           ∷ (push relative (fin true 1733885856537641 (negsuc 51)) (fin false 4638707616191611 (negsuc 52)) (fin false 0 (pos 0)) (fin false 1 (negsuc 1)) Smooth (Held (fin false 1 (pos 0))) (fin false 1 (pos 0)), says (number 3))
           ∷ (tick pool (quarters 3), ticks 3 1065361605)
           ∷ (tick pool (quarters 4), says (refused 10))
-          ∷ (block 5 pool (quarters 192) (some (quarters 192)), blocks 3 (1065369993 ∷ 1065378382 ∷ 1065051216 ∷ 1054626512 ∷ 1002740647 ∷ 0 ∷ 0 ∷ 0 ∷ []) (990057071 ∷ 994352038 ∷ 998445679 ∷ 1000593163 ∷ 1002740647 ∷ []))
-          ∷ (block 2 pool (quarters 192) (some (quarters 192)), blocks 3 (1004888131 ∷ 1006834287 ∷ 0 ∷ 0 ∷ 0 ∷ 0 ∷ 0 ∷ 0 ∷ []) (1004888131 ∷ 1006834287 ∷ []))
+          ∷ (block 5 pool (quarters 192) (some (quarters 64)), blocks 3 (1065369993 ∷ 1065378382 ∷ 1065051216 ∷ 1054626512 ∷ 1002740647 ∷ 0 ∷ 0 ∷ 0 ∷ []) (990057071 ∷ 994352038 ∷ 998445679 ∷ 1000593163 ∷ 1002740647 ∷ []))
+          ∷ (block 2 pool (quarters 192) (some (quarters 64)), blocks 3 (1004888131 ∷ 1006834287 ∷ 0 ∷ 0 ∷ 0 ∷ 0 ∷ 0 ∷ 0 ∷ []) (1004888131 ∷ 1006834287 ∷ []))
           ∷ (push byDuration (inf true) (fin false 2476979795053773 (negsuc 51)) (fin false 0 (pos 0)) (fin false 0 (pos 0)) Power (Held (fin false 13421773 (negsuc 26))) (fin false 1 (pos 0)), says (refused 3))
           ∷ (push byDuration (fin false 8106479329266893 (negsuc 52)) (fin false 3602879701896397 (negsuc 55)) (fin false 1 (negsuc 1073)) (fin false 6032057205060441 (negsuc 1048)) Power (Held (fin false 3 (pos 0))) (fin false 1 (pos 0)), says (number 4))
           ∷ (push byDuration (fin false 3 (negsuc 1)) (inf false) (fin false 4953959590107545 (negsuc 52)) (fin false 0 (pos 0)) Power (Ramp (fin false 11744051 (negsuc 23)) (fin true 0 (pos 0))) (fin false 1 (pos 0)), says (number 5))
           ∷ (tick pool (quarters 3), ticks 3 1038131840)
-          ∷ (block 7 pool (quarters 256) (some (quarters 192)), says (refused 10))
+          ∷ (block 7 pool (quarters 256) (some (quarters 64)), says (refused 10))
           ∷ [];
       state = 1 ∷ 2 ∷ 0 ∷ 1 ∷ 4606281698874543309 ∷ 4605831338911806259 ∷ 4621819117588971520 ∷ 4591870180066957722 ∷ 6 ∷ 4 ∷ 4606281698874543309 ∷ 4606732058837280359 ∷ 1 ∷ 118622047889322841 ∷ 0 ∷ 0
           ∷ 1077936128 ∷ 0 ∷ 0 ∷ 0 ∷ 2 ∷ 0 ∷ 4608871268660281344 ∷ 0 ∷ 4601778099247172813 ∷ 0 ∷ 1 ∷ 981668463 ∷ 981668463 ∷ 1008981771 ∷ 0 ∷ 5 ∷ 4604930618986332160 ∷ 9218868437227405312
@@ -460,12 +460,12 @@ lists3 =
       calls = (rate (fin false 1 (pos 3)), says done)
           ∷ (push relative (fin false 13 (negsuc 3)) (inf false) (fin false 6032057205060441 (negsuc 1048)) (fin false 1 (negsuc 2)) Smooth (Ramp (fin false 1 (pos 0)) (fin false 3 (pos 0))) (fin false 1 (pos 0)), says (number 2))
           ∷ (push byDuration (fin false 3 (negsuc 3)) (fin false 19 (negsuc 3)) (fin false 4334714641344103 (negsuc 52)) (fin false 3 (negsuc 3)) Smooth (Clip 1 2) (fin false 1 (pos 0)), says (number 3))
-          ∷ (block 4 pool (quarters 128) (some (quarters 128)), blocks 2 (0 ∷ 0 ∷ 3160109832 ∷ 1055269127 ∷ 0 ∷ 0 ∷ 0 ∷ 0 ∷ []) (3160109832 ∷ 1055269127 ∷ 1048576000 ∷ 1048576000 ∷ []))
+          ∷ (block 4 pool (quarters 128) (some (quarters 64)), blocks 2 (0 ∷ 0 ∷ 3160109832 ∷ 1055269127 ∷ 0 ∷ 0 ∷ 0 ∷ 0 ∷ []) (3160109832 ∷ 1055269127 ∷ 1048576000 ∷ 1048576000 ∷ []))
           ∷ (tick pool (quarters 2), ticks 2 0)
           ∷ (push absolute (fin false 3 (negsuc 1)) (fin false 13 (negsuc 3)) (fin false 0 (pos 0)) (fin false 0 (pos 0)) Smooth (Clip 6 5) (fin false 1 (pos 0)), says (number 4))
           ∷ (push byDuration (fin false 5 (negsuc 2)) (fin false 7 (negsuc 2)) (fin true 1 (pos 0)) (fin false 1 (negsuc 1)) Smooth (Held (fin false 0 (pos 0))) (fin false 1 (pos 0)), says (number 5))
           ∷ (tick pool (quarters 2), ticks 2 0)
-          ∷ (block 7 pool (quarters 128) (some (quarters 128)), blocks 2 (0 ∷ 1065353216 ∷ 1082130432 ∷ 1088421888 ∷ 1092616192 ∷ 1095761920 ∷ 1098907648 ∷ 0 ∷ []) (1065353216 ∷ 1082130432 ∷ 1088421888 ∷ 1092616192 ∷ 1095761920 ∷ 1098907648 ∷ 1048576000 ∷ []))
+          ∷ (block 7 pool (quarters 128) (some (quarters 64)), blocks 2 (0 ∷ 1065353216 ∷ 1082130432 ∷ 1088421888 ∷ 1092616192 ∷ 1095761920 ∷ 1098907648 ∷ 0 ∷ []) (1065353216 ∷ 1082130432 ∷ 1088421888 ∷ 1092616192 ∷ 1095761920 ∷ 1098907648 ∷ 1048576000 ∷ []))
           ∷ (push absolute (fin false 19 (negsuc 3)) (fin false 21 (negsuc 3)) (fin false 0 (pos 0)) (fin false 0 (pos 0)) Power (Held (fin false 3 (pos 0))) (fin false 1 (pos 0)), says (number 6))
           ∷ (rate (inf false), says (refused 2))
           ∷ [];
@@ -483,12 +483,12 @@ lists3 =
       calls = (rate (fin false 11025 (pos 2)), says done)
           ∷ (push relative (fin true 6692696262570359 (negsuc 68)) (fin false 3764641647695827 (negsuc 63)) (fin false 6490371073168535 (negsuc 108)) (fin false 0 (pos 0)) Power (Ramp (fin false 11744051 (negsuc 23)) (fin false 8589935 (negsuc 32))) (fin false 1 (pos 0)), says (number 1))
           ∷ (push byDuration (fin true 1 (negsuc 1073)) (fin false 5228668955133093 (negsuc 63)) (fin false 1681218273811815 (pos 946)) (fin false 0 (pos 0)) Power (Clip 7 9) (fin false 1 (pos 0)), says (refused 3))
-          ∷ (block 3 pool (quarters 128) (some (quarters 128)), blocks 2 (1060320051 ∷ 1060336828 ∷ 1060353605 ∷ 0 ∷ 0 ∷ 0 ∷ 0 ∷ 0 ∷ []) (1060320051 ∷ 1060336828 ∷ 1060353605 ∷ []))
+          ∷ (block 3 pool (quarters 128) (some (quarters 64)), blocks 2 (1060320051 ∷ 1060336828 ∷ 1060353605 ∷ 0 ∷ 0 ∷ 0 ∷ 0 ∷ 0 ∷ []) (1060320051 ∷ 1060336828 ∷ 1060353605 ∷ []))
           ∷ (edit relativeEnd 2 (fin false 8365870328212949 (negsuc 66)) (fin false 8365870328212949 (negsuc 66)), says stored)
           ∷ (tick pool (quarters 2), ticks 2 1060370382)
           ∷ (push absolute (fin false 6692696262570359 (negsuc 65)) (fin false 6483549504365035 (negsuc 63)) (fin false 5019522196927769 (negsuc 65)) (fin false 7529283295391653 (negsuc 65)) Power (Clip 4294967295 5) (fin false 1 (pos 0)), says (number 2))
           ∷ (edit absoluteEnd 2 (fin false 1411740617885935 (negsuc 61)) (fin false 0 (pos 0)), says stored)
-          ∷ (block 4 pool (quarters 128) (some (quarters 128)), blocks 2 (1060387159 ∷ 1060403936 ∷ 1060420713 ∷ 1060437490 ∷ 0 ∷ 0 ∷ 0 ∷ 0 ∷ []) (0 ∷ 0 ∷ 0 ∷ 0 ∷ []))
+          ∷ (block 4 pool (quarters 128) (some (quarters 64)), blocks 2 (1060387159 ∷ 1060403936 ∷ 1060420713 ∷ 1060437490 ∷ 0 ∷ 0 ∷ 0 ∷ 0 ∷ []) (0 ∷ 0 ∷ 0 ∷ 0 ∷ []))
           ∷ (push absolute (fin false 5019522196927769 (negsuc 63)) (fin false 339863482083651 (negsuc 59)) (fin false 0 (pos 0)) (fin false 418293516410647 (negsuc 63)) Smooth (Clip 1 0) (fin false 1 (pos 0)), says (number 3))
           ∷ (edit absoluteEnd 1 (inf false) (fin false 0 (pos 0)), says applied)
           ∷ (block 8 pool (quarters 128) none, blocks 2 (1060454267 ∷ 1060471044 ∷ 1060487821 ∷ 1060504598 ∷ 1060521375 ∷ 1060538152 ∷ 1060554929 ∷ 1060571706 ∷ []) ([]))
@@ -506,7 +506,7 @@ lists3 =
       calls = (rate (fin false 1 (pos 3)), says done)
           ∷ (push byDuration (fin true 7 (negsuc 3)) (fin false 5910974510923775 (negsuc 51)) (fin false 6490371073168535 (negsuc 108)) (fin false 0 (pos 0)) Power (Ramp (fin false 3 (pos 0)) (fin false 3 (pos 0))) (fin false 1 (pos 0)), says (number 18446744073709551615))
           ∷ (push byDuration (fin false 0 (pos 0)) (fin false 25 (negsuc 3)) (fin false 0 (pos 0)) (fin false 1 (negsuc 1)) Smooth (Ramp (fin false 3 (pos 0)) (fin false 1 (pos 0))) (fin false 1 (pos 0)), says (refused 7))
-          ∷ (block 2 pool (quarters 127) (some (quarters 0)), says (refused 10))
+          ∷ (block 2 pool (quarters 127) (some (quarters 128)), says (refused 10))
           ∷ [];
       state = 1 ∷ 0 ∷ 0 ∷ 0 ∷ 0 ∷ 18442240474082181120 ∷ 4620693217682128896 ∷ 4593671619917905920 ∷ 18446744073709551616 ∷ 18446744073709551615 ∷ 13824924956120580096 ∷ 4606056518893174782
           ∷ 4352464011485697175 ∷ 0 ∷ 0 ∷ 1 ∷ 1077936128 ∷ 1077936128 ∷ 1077936128 ∷ 0 ∷ [];
@@ -521,12 +521,12 @@ lists3 =
           ∷ (push absolute (fin false 0 (pos 0)) (fin false 6004799503160661 (negsuc 50)) (fin false 5254199565265579 (negsuc 51)) (fin false 3002399751580331 (negsuc 49)) Power (Held (fin false 1 (pos 0))) (fin false 1 (pos 0)), says (refused 4))
           ∷ (push relative (fin false 6004799503160661 (negsuc 53)) (fin false 4878899596318037 (negsuc 50)) (fin false 6490371073168535 (negsuc 108)) (fin false 8256599316845909 (negsuc 51)) Smooth (Ramp (fin false 1 (negsuc 0)) (fin false 3 (pos 0))) (fin false 1 (pos 0)), says (number 18446744073709551613))
           ∷ (edit absoluteEnd 18446744073709551615 (fin false 6004799503160661 (negsuc 52)) (fin false 6004799503160661 (negsuc 51)), says stored)
-          ∷ (block 4 pool (quarters 0) (some (quarters 128)), says (refused 10))
+          ∷ (block 4 pool (quarters 0) (some (quarters 64)), says (refused 10))
           ∷ (block 6 pool (quarters 128) none, blocks 2 (0 ∷ 1056964608 ∷ 1079374073 ∷ 1083873923 ∷ 1081898865 ∷ 1070483047 ∷ 0 ∷ 0 ∷ []) ([]))
           ∷ (tick pool (quarters 2), ticks 2 0)
           ∷ (reset, says done)
           ∷ (rate (fin false 7 (pos 0)), says done)
-          ∷ (block 65 pool (quarters 128) (some (quarters 128)), says (refused 11))
+          ∷ (block 65 pool (quarters 128) (some (quarters 64)), says (refused 11))
           ∷ [];
       state = 1 ∷ 0 ∷ 0 ∷ 0 ∷ 0 ∷ 18442240474082181120 ∷ 4619567317775286272 ∷ 4594314991293244562 ∷ 18446744073709551614 ∷ 18446744073709551613 ∷ 4599676419421066581 ∷ 4612061318396335445
           ∷ 4352464011485697175 ∷ 4610935418489492821 ∷ 1 ∷ 1 ∷ 1056964608 ∷ 1077936128 ∷ 1056964608 ∷ 0 ∷ [];
@@ -547,7 +547,7 @@ lists3 =
           ∷ (edit absoluteEnd 1 (fin false 5437815713338417 (negsuc 63)) (fin false 0 (pos 0)), says stored)
           ∷ (edit relativeEnd 1 (fin false 732013653718633 (negsuc 62)) (fin true 1 (pos 0)), says stored)
           ∷ (edit absoluteEnd 3 (fin false 6692696262570359 (negsuc 66)) (fin false 7529283295391655 (negsuc 65)), says stored)
-          ∷ (block 5 pool (quarters 128) (some (quarters 128)), blocks 2 (1059206703 ∷ 1066975931 ∷ 1075895636 ∷ 1080208786 ∷ 0 ∷ 0 ∷ 0 ∷ 0 ∷ []) (3179800613 ∷ 1053389135 ∷ 1070499699 ∷ 1080208786 ∷ 1048576000 ∷ []))
+          ∷ (block 5 pool (quarters 128) (some (quarters 64)), blocks 2 (1059206703 ∷ 1066975931 ∷ 1075895636 ∷ 1080208786 ∷ 0 ∷ 0 ∷ 0 ∷ 0 ∷ []) (3179800613 ∷ 1053389135 ∷ 1070499699 ∷ 1080208786 ∷ 1048576000 ∷ []))
           ∷ [];
       state = 0 ∷ 2 ∷ 1 ∷ 0 ∷ 4549988133246579528 ∷ 4549569839730168881 ∷ 4676293871431319552 ∷ 4537313921397289335 ∷ 4 ∷ 2 ∷ 13768856570473984840 ∷ 4547157707684851622 ∷ 0 ∷ 1 ∷ 0 ∷ 1 ∷ 1056964608
           ∷ 1036831949 ∷ 1065353217 ∷ 0 ∷ 1 ∷ 4540144346959017241 ∷ 4548733252697347586 ∷ 4553655145841128729 ∷ 13830554455654793216 ∷ 0 ∷ 1 ∷ 3212836864 ∷ 1077936128 ∷ 1093664768 ∷ 0 ∷ 3
@@ -602,8 +602,8 @@ lists4 =
       calls = (push absolute (fin false 6692696262570359 (negsuc 66)) (fin false 732013653718633 (negsuc 60)) (fin false 5019522196927769 (negsuc 63)) (fin false 5019522196927769 (negsuc 66)) Smooth (Clip 3 9) (fin false 1 (pos 0)), says (number 18446744073709551613))
           ∷ (push absolute (fin false 5019522196927769 (negsuc 66)) (fin false 3346348131285179 (negsuc 63)) (fin false 8365870328212949 (negsuc 66)) (fin false 6490371073168535 (negsuc 108)) Smooth (Ramp (fin false 1 (pos 0)) (fin false 13421773 (negsuc 26))) (fin false 1 (pos 0)), says (number 18446744073709551614))
           ∷ (push relative (fin true 1 (pos 0)) (fin true 4502067790762547 (negsuc 51)) (fin false 0 (pos 0)) (fin true 0 (pos 0)) Power (Clip 7 2) (fin false 1 (pos 0)), says (number 18446744073709551615))
-          ∷ (block 65 pool (quarters 192) (some (quarters 193)), says (refused 10))
-          ∷ (block 5 pool (quarters 192) (some (quarters 191)), says (refused 10))
+          ∷ (block 65 pool (quarters 192) (some (quarters 65)), says (refused 10))
+          ∷ (block 5 pool (quarters 192) (some (quarters 63)), says (refused 10))
           ∷ [];
       state = 3 ∷ 0 ∷ 0 ∷ 0 ∷ 0 ∷ 18442240474082181120 ∷ 4676293871431319552 ∷ 4537313921397289335 ∷ 18446744073709551616 ∷ 18446744073709551615 ∷ 13830554455654793216 ∷ 13830551391981577318 ∷ 0
           ∷ 9223372036854775808 ∷ 0 ∷ 2 ∷ 7 ∷ 2 ∷ 0 ∷ 0 ∷ 18446744073709551614 ∷ 4540144346959017241 ∷ 4550824720279400822 ∷ 4543490695090302421 ∷ 4352464011485697175 ∷ 1 ∷ 1 ∷ 1065353216 ∷ 1036831949
@@ -635,9 +635,9 @@ lists4 =
           ∷ (tick pool (quarters 3), ticks 3 0)
           ∷ (edit absoluteEnd 1 (inf false) (fin false 0 (pos 0)), says stored)
           ∷ (edit absoluteEnd 2 (inf false) (fin false 0 (pos 0)), says applied)
-          ∷ (block 2 pool (quarters 192) (some (quarters 192)), blocks 3 (0 ∷ 0 ∷ 0 ∷ 0 ∷ 0 ∷ 0 ∷ 0 ∷ 0 ∷ []) (0 ∷ 0 ∷ []))
+          ∷ (block 2 pool (quarters 192) (some (quarters 64)), blocks 3 (0 ∷ 0 ∷ 0 ∷ 0 ∷ 0 ∷ 0 ∷ 0 ∷ 0 ∷ []) (0 ∷ 0 ∷ []))
           ∷ (rate (fin false 1 (pos 3)), says done)
-          ∷ (block 0 pool (quarters 192) (some (quarters 192)), blocks 3 ([]) ([]))
+          ∷ (block 0 pool (quarters 192) (some (quarters 64)), blocks 3 ([]) ([]))
           ∷ [];
       state = 1 ∷ 1 ∷ 0 ∷ 0 ∷ 4600427019358961664 ∷ 4599301119452119040 ∷ 4620693217682128896 ∷ 4593671619917905920 ∷ 3 ∷ 1 ∷ 4602678819172646911 ∷ 4610841593497255936 ∷ 0 ∷ 13830554455654793216 ∷ 0
           ∷ 2 ∷ 4294967295 ∷ 2 ∷ 0 ∷ 0 ∷ 2 ∷ 0 ∷ 9218868437227405312 ∷ 0 ∷ 0 ∷ 0 ∷ 2 ∷ 7 ∷ 4294967295 ∷ 0 ∷ 3 ∷ [];
@@ -759,10 +759,10 @@ lists5 =
           ∷ (edit absoluteEnd 0 (fin false 1 (negsuc 1073)) (fin false 7 (negsuc 3)), says stored)
           ∷ (block 9 pool (quarters 128) none, blocks 2 (981668463 ∷ 3212820087 ∷ 0 ∷ 0 ∷ 0 ∷ 0 ∷ 0 ∷ 0 ∷ 0 ∷ 0 ∷ 0 ∷ 0 ∷ 0 ∷ 0 ∷ 0 ∷ 0 ∷ []) ([]))
           ∷ (push absolute (fin false 19 (negsuc 3)) (fin false 39 (negsuc 3)) (fin false 1 (negsuc 1)) (fin false 0 (pos 0)) Power (Held (fin false 3 (pos 0))) (fin false 1 (pos 0)), says (refused 7))
-          ∷ (block 2 pool (quarters 128) (some (quarters 128)), blocks 2 (0 ∷ 0 ∷ 0 ∷ 0 ∷ 0 ∷ 0 ∷ 0 ∷ 0 ∷ []) (1048576000 ∷ 1048576000 ∷ []))
+          ∷ (block 2 pool (quarters 128) (some (quarters 64)), blocks 2 (0 ∷ 0 ∷ 0 ∷ 0 ∷ 0 ∷ 0 ∷ 0 ∷ 0 ∷ []) (1048576000 ∷ 1048576000 ∷ []))
           ∷ (edit absoluteEnd 18446744073709551615 (fin false 11 (negsuc 2)) (fin false 0 (pos 0)), says stored)
           ∷ (
-            block 64 pool (quarters 128) (some (quarters 128)),
+            block 64 pool (quarters 128) (some (quarters 64)),
             blocks 2 (0 ∷ 0 ∷ 0 ∷ 0 ∷ 0 ∷ 0 ∷ 0 ∷ 0 ∷ 0 ∷ 0 ∷ 0 ∷ 0 ∷ 0 ∷ 0 ∷ 0 ∷ 0 ∷ 0 ∷ 0 ∷ 0 ∷ 0 ∷ 0 ∷ 0 ∷ 0 ∷ 0 ∷ 0 ∷ 0 ∷ 0 ∷ 0 ∷ 0 ∷ 0 ∷ 0 ∷ 0 ∷ 0 ∷ 0 ∷ 0 ∷ 0 ∷ 0 ∷ 0 ∷ 0 ∷ 0 ∷ 0 ∷ 0 ∷ 0 ∷ 0 ∷ 0 ∷ 0 ∷ 0 ∷ 0
                 ∷ 0 ∷ 0 ∷ 0 ∷ 0 ∷ 0 ∷ 0 ∷ 0 ∷ 0 ∷ 0 ∷ 0 ∷ 0 ∷ 0 ∷ 0 ∷ 0 ∷ 0 ∷ 0 ∷ []) (1048576000 ∷ 1048576000 ∷ 1048576000 ∷ 1048576000 ∷ 1048576000 ∷ 1048576000 ∷ 1048576000 ∷ 1048576000
                 ∷ 1048576000 ∷ 1048576000 ∷ 1048576000 ∷ 1048576000 ∷ 1048576000 ∷ 1048576000 ∷ 1048576000 ∷ 1048576000 ∷ 1048576000 ∷ 1048576000 ∷ 1048576000 ∷ 1048576000 ∷ 1048576000 ∷ 1048576000
@@ -863,7 +863,7 @@ lists5 =
       created = done;
       calls = (push absolute (fin true 6692696262570359 (negsuc 68)) (fin false 339863482083651 (negsuc 59)) (fin false 1411740617885935 (negsuc 61)) (fin false 0 (pos 0)) Smooth (Held (fin false 11744051 (negsuc 23))) (fin false 1 (pos 0)), says (number 1000))
           ∷ (push absolute (fin false 6692696262570359 (negsuc 67)) (fin false 3346348131285179 (negsuc 62)) (fin false 0 (pos 0)) nan Power (Clip 7 0) (fin false 1 (pos 0)), says (refused 3))
-          ∷ (block 65 pool (quarters 127) (some (quarters 128)), says (refused 10))
+          ∷ (block 65 pool (quarters 127) (some (quarters 64)), says (refused 10))
           ∷ [];
       state = 1 ∷ 0 ∷ 0 ∷ 0 ∷ 0 ∷ 18442240474082181120 ∷ 4676293871431319552 ∷ 4537313921397289335 ∷ 1001 ∷ 1000 ∷ 13756182358624694647 ∷ 4554073439357539376 ∷ 4554282586115744700 ∷ 0 ∷ 1 ∷ 0
           ∷ 1060320051 ∷ 0 ∷ 0 ∷ 0 ∷ [];
@@ -1319,7 +1319,7 @@ lists8 =
       calls = (rate (fin false 1 (pos 3)), says done)
           ∷ (push absolute (fin false 0 (pos 0)) (inf false) (fin false 9007199254740991 (negsuc 56)) (fin false 1 (negsuc 2)) Power (Clip 4294967295 4294967295) (fin false 1 (pos 0)), says (number 1))
           ∷ (push byDuration (fin false 1 (negsuc 1)) (inf false) (fin false 0 (pos 0)) (inf false) Power (Ramp (fin true 0 (pos 0)) (fin false 1 (pos 0))) (fin false 1 (pos 0)), says (refused 3))
-          ∷ (block 6 pool (quarters 128) (some (quarters 128)), blocks 2 (0 ∷ 0 ∷ 0 ∷ 0 ∷ 0 ∷ 0 ∷ 0 ∷ 0 ∷ []) (0 ∷ 0 ∷ 0 ∷ 0 ∷ 0 ∷ 0 ∷ []))
+          ∷ (block 6 pool (quarters 128) (some (quarters 64)), blocks 2 (0 ∷ 0 ∷ 0 ∷ 0 ∷ 0 ∷ 0 ∷ 0 ∷ 0 ∷ []) (0 ∷ 0 ∷ 0 ∷ 0 ∷ 0 ∷ 0 ∷ []))
           ∷ (push relative (fin false 1 (negsuc 0)) (fin false 15 (negsuc 3)) (fin false 0 (pos 0)) (fin false 0 (pos 0)) Smooth (Held (fin false 3 (pos 0))) (fin false 1 (pos 0)), says (number 2))
           ∷ (tick pool (quarters 2), ticks 2 0)
           ∷ (tick pool (quarters 2), ticks 2 0)
@@ -1360,8 +1360,8 @@ lists8 =
           ∷ (push byDuration (fin false 23 (negsuc 2)) (fin false 5 (negsuc 2)) (fin false 0 (pos 0)) (fin false 0 (pos 0)) Power (Held (fin true 0 (pos 0))) (fin false 1 (pos 0)), says (number 5))
           ∷ (reset, says done)
           ∷ (edit absoluteEnd 0 (fin false 4503599627370497 (negsuc 54)) (fin false 0 (pos 0)), says stored)
-          ∷ (block 3 pool (quarters 128) (some (quarters 128)), blocks 2 (0 ∷ 0 ∷ 0 ∷ 0 ∷ 0 ∷ 0 ∷ 0 ∷ 0 ∷ []) (1048576000 ∷ 1048576000 ∷ 1048576000 ∷ []))
-          ∷ (block 2 pool (quarters 128) (some (quarters 129)), says (refused 10))
+          ∷ (block 3 pool (quarters 128) (some (quarters 64)), blocks 2 (0 ∷ 0 ∷ 0 ∷ 0 ∷ 0 ∷ 0 ∷ 0 ∷ 0 ∷ []) (1048576000 ∷ 1048576000 ∷ 1048576000 ∷ []))
+          ∷ (block 2 pool (quarters 128) (some (quarters 65)), says (refused 10))
           ∷ [];
       state = 0 ∷ 0 ∷ 0 ∷ 5 ∷ 4600427019358961664 ∷ 4599301119452119040 ∷ 4620693217682128896 ∷ 4593671619917905920 ∷ 6 ∷ [];
       edits = record { id = 0; end = 4593671619917905921; fade = 0 } ∷ [];
@@ -1379,9 +1379,9 @@ lists8 =
           ∷ (push relative (fin true 1 (negsuc 3)) (fin false 8444249301319679 (negsuc 52)) (fin false 5 (negsuc 2)) (fin false 0 (pos 0)) Power (Ramp (fin false 3 (pos 0)) (fin false 1 (negsuc 0))) (fin false 1 (pos 0)), says (number 2))
           ∷ (edit relativeEnd 1 (fin false 3 (negsuc 1)) (fin false 7430939385161319 (negsuc 53)), says applied)
           ∷ (tick pool (quarters 2), ticks 2 1066812938)
-          ∷ (block 1 pool (quarters 128) (some (quarters 128)), blocks 2 (1074959014 ∷ 0 ∷ 0 ∷ 0 ∷ 0 ∷ 0 ∷ 0 ∷ 0 ∷ []) (1070304178 ∷ []))
+          ∷ (block 1 pool (quarters 128) (some (quarters 64)), blocks 2 (1074959014 ∷ 0 ∷ 0 ∷ 0 ∷ 0 ∷ 0 ∷ 0 ∷ 0 ∷ []) (1070304178 ∷ []))
           ∷ (edit absoluteEnd 3 (fin false 7 (negsuc 1)) (fin false 0 (pos 0)), says stored)
-          ∷ (block 65 pool (quarters 128) (some (quarters 128)), says (refused 11))
+          ∷ (block 65 pool (quarters 128) (some (quarters 64)), says (refused 11))
           ∷ (edit absoluteEnd 1 (fin false 23 (negsuc 3)) (fin false 0 (pos 0)), says applied)
           ∷ [];
       state = 0 ∷ 2 ∷ 0 ∷ 0 ∷ 4602678819172646912 ∷ 4601552919265804288 ∷ 4620693217682128896 ∷ 4593671619917905920 ∷ 3 ∷ 1 ∷ 13830554455654793216 ∷ 4609152743636992000 ∷ 0 ∷ 0 ∷ 0 ∷ 1 ∷ 1060320051
@@ -1536,10 +1536,10 @@ lists9 =
           ∷ (push byDuration (fin false 2305845315059009 (negsuc 61)) (fin false 2882306643823761 (negsuc 59)) (fin false 0 (pos 0)) (fin false 0 (pos 0)) Power (Clip 7 2) (fin false 1 (pos 0)), says (number 1))
           ∷ (push absolute (fin true 2305845315059009 (negsuc 61)) (fin false 7493997273941779 (negsuc 59)) (fin false 0 (pos 0)) (fin false 0 (pos 0)) Power (Clip 1 9) (fin false 1 (pos 0)), says (number 2))
           ∷ (push absolute (fin false 6917535945177027 (negsuc 61)) (fin false 7782227938324155 (negsuc 58)) (fin false 1 (negsuc 1073)) (fin true 0 (pos 0)) Power (Clip 0 2) (fin false 1 (pos 0)), says (number 3))
-          ∷ (block 5 pool (quarters 128) (some (quarters 128)), blocks 2 (3208642560 ∷ 1069547520 ∷ 1058642330 ∷ 3224371200 ∷ 1050253722 ∷ 0 ∷ 0 ∷ 0 ∷ []) (1056964608 ∷ 3208642560 ∷ 0 ∷ 3221225472 ∷ 1050253722 ∷ []))
+          ∷ (block 5 pool (quarters 128) (some (quarters 64)), blocks 2 (3208642560 ∷ 1069547520 ∷ 1058642330 ∷ 3224371200 ∷ 1050253722 ∷ 0 ∷ 0 ∷ 0 ∷ []) (1056964608 ∷ 3208642560 ∷ 0 ∷ 3221225472 ∷ 1050253722 ∷ []))
           ∷ (rate (fin false 4398042113057489 (negsuc 41)), says done)
-          ∷ (block 7 pool (quarters 128) (some (quarters 128)), blocks 2 (1065353216 ∷ 0 ∷ 0 ∷ 0 ∷ 0 ∷ 0 ∷ 0 ∷ 0 ∷ []) (0 ∷ 0 ∷ 0 ∷ 0 ∷ 0 ∷ 0 ∷ 0 ∷ []))
-          ∷ (block 5 pool (quarters 128) (some (quarters 128)), blocks 2 (0 ∷ 0 ∷ 0 ∷ 0 ∷ 0 ∷ 0 ∷ 0 ∷ 0 ∷ []) (0 ∷ 1048576000 ∷ 1048576000 ∷ 1048576000 ∷ 1048576000 ∷ []))
+          ∷ (block 7 pool (quarters 128) (some (quarters 64)), blocks 2 (1065353216 ∷ 0 ∷ 0 ∷ 0 ∷ 0 ∷ 0 ∷ 0 ∷ 0 ∷ []) (0 ∷ 0 ∷ 0 ∷ 0 ∷ 0 ∷ 0 ∷ 0 ∷ []))
+          ∷ (block 5 pool (quarters 128) (some (quarters 64)), blocks 2 (0 ∷ 0 ∷ 0 ∷ 0 ∷ 0 ∷ 0 ∷ 0 ∷ 0 ∷ []) (0 ∷ 1048576000 ∷ 1048576000 ∷ 1048576000 ∷ 1048576000 ∷ []))
           ∷ [];
       state = 0 ∷ 1 ∷ 2 ∷ 0 ∷ 4580557142702924330 ∷ 4580413027370733142 ∷ 4652007300045096354 ∷ 4562254513529059970 ∷ 4 ∷ 3 ∷ 4564560358844118979 ∷ 4578935849719377595 ∷ 1 ∷ 9223372036854775808 ∷ 0
           ∷ 2 ∷ 0 ∷ 2 ∷ 0 ∷ 2 ∷ 1 ∷ 4557750913901689474 ∷ 4569063958471489474 ∷ 0 ∷ 0 ∷ 0 ∷ 2 ∷ 7 ∷ 2 ∷ 0 ∷ 2 ∷ 2 ∷ 13781122950756465282 ∷ 4574144019427624723 ∷ 0 ∷ 0 ∷ 0 ∷ 2 ∷ 1 ∷ 9 ∷ 0 ∷ 7 ∷ [];
@@ -1595,7 +1595,7 @@ lists10 =
       created = done;
       calls = (push byDuration (fin false 0 (pos 0)) (fin false 732013653718633 (negsuc 61)) (fin false 6490371073168535 (negsuc 108)) (fin false 0 (pos 0)) Smooth (Ramp (fin false 0 (pos 0)) (fin false 11744051 (negsuc 23))) (fin false 1 (pos 0)), says (number 1))
           ∷ (push byDuration (fin true 732013653718633 (negsuc 62)) (fin false 6692696262570359 (negsuc 68)) (fin false 6692696262570359 (negsuc 68)) (fin false 0 (pos 0)) Smooth (Held (fin false 11744051 (negsuc 23))) (fin false 1 (pos 0)), says (number 2))
-          ∷ (block 0 pool (quarters 128) (some (quarters 128)), blocks 2 ([]) ([]))
+          ∷ (block 0 pool (quarters 128) (some (quarters 64)), blocks 2 ([]) ([]))
           ∷ (edit absoluteEnd 2 (fin false 3764641647695827 (negsuc 63)) (fin true 1 (pos 0)), says stored)
           ∷ (tick pool (quarters 2), ticks 2 0)
           ∷ (edit absoluteEnd 2 (fin false 4601228680517121 (negsuc 63)) (fin false 8365870328212949 (negsuc 66)), says stored)
@@ -1665,7 +1665,7 @@ lists10 =
       calls = (push absolute (fin true 6692696262570359 (negsuc 68)) (fin false 3346348131285179 (negsuc 66)) (fin false 0 (pos 0)) (fin false 0 (pos 0)) Smooth (Ramp (fin false 1 (pos 0)) (fin false 1 (pos 0))) (fin false 1 (pos 0)), says (number 1))
           ∷ (push byDuration (fin false 0 (pos 0)) (inf false) (fin false 732013653718633 (negsuc 62)) (fin false 6692696262570359 (negsuc 65)) Power (Clip 4294967295 4294967295) (fin false 1 (pos 0)), says (number 2))
           ∷ (push relative (fin false 0 (pos 0)) (inf false) (fin false 0 (pos 0)) (fin false 0 (pos 0)) Smooth (Ramp (fin false 1 (negsuc 0)) (fin false 1 (negsuc 0))) (fin false 1 (pos 0)), says (number 3))
-          ∷ (block 7 pool (quarters 192) (some (quarters 192)), blocks 3 (1069547520 ∷ 1065353216 ∷ 1069547520 ∷ 1073741824 ∷ 1075838976 ∷ 1077936128 ∷ 1080033280 ∷ 0 ∷ []) (1056964608 ∷ 1065353216 ∷ 1069547520 ∷ 1073741824 ∷ 1075838976 ∷ 1077936128 ∷ 1080033280 ∷ []))
+          ∷ (block 7 pool (quarters 192) (some (quarters 64)), blocks 3 (1069547520 ∷ 1065353216 ∷ 1069547520 ∷ 1073741824 ∷ 1075838976 ∷ 1077936128 ∷ 1080033280 ∷ 0 ∷ []) (1056964608 ∷ 1065353216 ∷ 1069547520 ∷ 1073741824 ∷ 1075838976 ∷ 1077936128 ∷ 1080033280 ∷ []))
           ∷ (tick pool (quarters 0), says (refused 10))
           ∷ (rate (fin false 1 (pos 0)), says done)
           ∷ [];
@@ -1767,7 +1767,7 @@ lists11 =
           ∷ (push absolute (fin false 0 (pos 0)) (fin false 5019522196927769 (negsuc 64)) (fin false 3764641647695827 (negsuc 64)) (fin false 0 (pos 0)) Power (Held (inf true)) (fin false 1 (pos 0)), says (refused 5))
           ∷ (tick pool (quarters 2), says (refused 10))
           ∷ (reset, says done)
-          ∷ (block 8 pool (quarters 256) (some (quarters 192)), says (refused 10))
+          ∷ (block 8 pool (quarters 256) (some (quarters 64)), says (refused 10))
           ∷ (edit absoluteEnd 0 (fin false 732013653718633 (negsuc 61)) (fin false 0 (pos 0)), says stored)
           ∷ (edit relativeEnd 1 (inf false) (fin false 0 (pos 0)), says stored)
           ∷ [];
@@ -1804,7 +1804,7 @@ lists11 =
           ∷ (push relative (fin false 7720456504063707 (negsuc 54)) (fin false 7077085128725065 (negsuc 52)) (fin false 0 (pos 0)) (fin false 6490371073168535 (negsuc 108)) Power (Clip 1 0) (fin false 1 (pos 0)), says (number 2))
           ∷ (edit relativeEnd 1 (fin false 7077085128725065 (negsuc 51)) (fin false 0 (pos 0)), says stored)
           ∷ (edit relativeEnd 0 (fin false 7720456504063707 (negsuc 52)) (fin false 0 (pos 0)), says stored)
-          ∷ (block 4 pool (quarters 128) (some (quarters 128)), blocks 2 (0 ∷ 0 ∷ 0 ∷ 0 ∷ 0 ∷ 0 ∷ 0 ∷ 0 ∷ []) (0 ∷ 0 ∷ 0 ∷ 0 ∷ []))
+          ∷ (block 4 pool (quarters 128) (some (quarters 64)), blocks 2 (0 ∷ 0 ∷ 0 ∷ 0 ∷ 0 ∷ 0 ∷ 0 ∷ 0 ∷ []) (0 ∷ 0 ∷ 0 ∷ 0 ∷ []))
           ∷ (push byDuration (fin false 8388608000000001 (negsuc 22)) (fin false 3 (negsuc 0)) (fin false 2573485501354569 (negsuc 54)) (fin false 3 (negsuc 0)) Power (Ramp (fin false 0 (pos 0)) (fin false 1 (pos 0))) (fin false 1 (pos 0)), says (refused 3))
           ∷ [];
       state = 0 ∷ 2 ∷ 0 ∷ 0 ∷ 4603322190547985554 ∷ 4602678819172646912 ∷ 4619567317775286272 ∷ 4594314991293244562 ∷ 3 ∷ 1 ∷ 9223372036854775809 ∷ 4609755904301371977 ∷ 4594314991293244562 ∷ 0 ∷ 0
@@ -1834,7 +1834,7 @@ lists11 =
       calls = (rate (fin false 7 (pos 0)), says done)
           ∷ (push absolute (fin false 2573485501354569 (negsuc 54)) (fin false 5146971002709137 (negsuc 51)) (fin false 603160664379977 (negsuc 48)) (fin false 3216856876693211 (negsuc 51)) Smooth (Held (fin false 1 (pos 0))) (fin false 1 (pos 0)), says (number 2))
           ∷ (push absolute (fin false 2573485501354569 (negsuc 53)) (fin false 4889622452573681 (negsuc 51)) (fin false 0 (pos 0)) (fin false 4246251077235039 (negsuc 51)) Smooth (Clip 7 2) (fin false 1 (pos 0)), says (number 3))
-          ∷ (block 8 pool (quarters 0) (some (quarters 192)), says (refused 10))
+          ∷ (block 8 pool (quarters 0) (some (quarters 64)), says (refused 10))
           ∷ (push relative (fin false 0 (pos 0)) (inf false) (fin false 2573485501354569 (negsuc 54)) (fin true 1953125 (pos 9)) Smooth (Clip 1 0) (fin false 1 (pos 0)), says (number 4))
           ∷ (push relative (fin true 2573485501354569 (negsuc 54)) (fin false 5790342378047781 (negsuc 51)) (fin false 0 (pos 0)) (fin false 0 (pos 0)) Power (Ramp (fin false 3 (pos 0)) (fin false 13421773 (negsuc 26))) (fin false 1 (pos 0)), says (number 5))
           ∷ (tick pool (quarters 3), ticks 3 1077936128)
@@ -1885,10 +1885,10 @@ lists11 =
       calls = (rate (fin false 1 (pos 3)), says done)
           ∷ (push byDuration (fin false 1 (negsuc 1)) (fin false 25 (negsuc 3)) (fin false 6192449487634431 (negsuc 52)) (fin false 3 (negsuc 2)) Smooth (Held (fin false 8589935 (negsuc 32))) (fin false 1 (pos 0)), says (number 1))
           ∷ (push absolute (fin false 13 (negsuc 3)) (inf false) (fin true 0 (pos 0)) (fin false 0 (pos 0)) Smooth (Ramp (fin true 0 (pos 0)) (fin true 1 (pos 0))) (fin false 1 (pos 0)), says (number 2))
-          ∷ (block 5 pool (quarters 128) (some (quarters 128)), blocks 2 (0 ∷ 0 ∷ 0 ∷ 943478889 ∷ 965121929 ∷ 0 ∷ 0 ∷ 0 ∷ []) (0 ∷ 943478889 ∷ 965121929 ∷ 1048576000 ∷ 1048576000 ∷ []))
+          ∷ (block 5 pool (quarters 128) (some (quarters 64)), blocks 2 (0 ∷ 0 ∷ 0 ∷ 943478889 ∷ 965121929 ∷ 0 ∷ 0 ∷ 0 ∷ []) (0 ∷ 943478889 ∷ 965121929 ∷ 1048576000 ∷ 1048576000 ∷ []))
           ∷ (push absolute (fin false 9 (negsuc 3)) (fin false 39 (negsuc 3)) (fin false 0 (pos 0)) (fin false 15 (negsuc 2)) Power (Ramp (fin true 1 (pos 0)) (fin false 8589935 (negsuc 32))) (fin false 1 (pos 0)), says (number 3))
           ∷ (block 2 pool (quarters 128) none, blocks 2 (3212803759 ∷ 3212596490 ∷ 0 ∷ 0 ∷ 0 ∷ 0 ∷ 0 ∷ 0 ∷ []) ([]))
-          ∷ (block 8 pool (quarters 127) (some (quarters 129)), says (refused 10))
+          ∷ (block 8 pool (quarters 127) (some (quarters 65)), says (refused 10))
           ∷ (push absolute (fin false 9 (negsuc 2)) (fin false 35 (negsuc 3)) (fin false 3 (negsuc 2)) (fin false 9 (negsuc 3)) Smooth (Held (fin false 13421773 (negsuc 26))) (fin false 1 (pos 0)), says (number 4))
           ∷ (edit relativeEnd 1 (fin false 3 (negsuc 2)) (fin false 5066549580791807 (negsuc 52)), says applied)
           ∷ (push absolute (fin false 15 (negsuc 3)) (fin false 1 (pos 0)) (inf true) (fin false 0 (pos 0)) Smooth (Held (fin false 0 (pos 0))) (fin false 1 (pos 0)), says (refused 3))
@@ -2000,7 +2000,7 @@ lists12 =
           ∷ (tick pool (quarters 3), ticks 3 0)
           ∷ (reset, says done)
           ∷ (edit absoluteEnd 18446744073709551614 (fin false 0 (pos 0)) (fin false 0 (pos 0)), says stored)
-          ∷ (block 8 pool (quarters 256) (some (quarters 192)), says (refused 10))
+          ∷ (block 8 pool (quarters 256) (some (quarters 64)), says (refused 10))
           ∷ (edit absoluteEnd 18446744073709551613 (fin false 6692696262570359 (negsuc 67)) (fin false 0 (pos 0)), says stored)
           ∷ (push byDuration (fin false 0 (pos 0)) (fin false 8365870328212949 (negsuc 66)) (fin false 0 (pos 0)) (fin false 0 (pos 0)) Power (Clip 0 2) nan, says (refused 18))
           ∷ [];

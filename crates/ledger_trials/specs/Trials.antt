@@ -39,7 +39,7 @@ pub record WantEdit : Type 0 where
   pub end : ℕ
   pub fade : ℕ
 
--- What a call must give back: its answer; of an accepted tick (stride 1) or block (stride 64) the first samples of each of `channels` channels, what follows being as it was lent; and a block's scratch of each channel, as far as samples were given.
+-- What a call must give back: its answer; of an accepted tick (stride 1) or block (stride 64) the first samples of each of `channels` channels, what follows being as it was lent; and a block's scratch, as far as samples were given.
 -- A refused call has channels 0: all that is lent is as it was.
 pub record Want : Type 0 where
   pub answer : Answer
@@ -118,16 +118,12 @@ samePart (suc k) [] l = false
 samePart (suc k) (b ∷ m) [] = false
 samePart (suc k) (b ∷ m) (x ∷ l) = eqb (toBits binary32 x) b && samePart k m l
 
-sameChannels : (channels given : ℕ) → List ℕ → List Float → Bool
-unfolding samePart
-sameChannels zero given m l = true
-sameChannels (suc c) given m l = samePart given m l && sameChannels c given m (drop 64 l)
-
+-- of a refused call (channels 0) all of it, as it was lent
 sameScratch : (channels given : ℕ) → List ℕ → Option (List Float) → Bool
-unfolding sameChannels sameSamples
+unfolding samePart sameSamples
 sameScratch c given m none = true
 sameScratch zero given m (some l) = sameSamples [] l
-sameScratch (suc c) given m (some l) = sameChannels (suc c) given m l
+sameScratch (suc c) given m (some l) = samePart given m l
 
 sameReplies : List Reply → List (Call × Want) → Bool
 unfolding sameOut sameScratch

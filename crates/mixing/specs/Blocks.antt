@@ -1,14 +1,8 @@
 -- A block of the engine as the ledger has it. Assumes nothing.
 use Prim.Native.Nat.{ℕ, _+_, _*_, _/_, _≤_, min}
 use mathlib.Core.Path.{_≡_}
-use mathlib.Core.Bool.{Bool, true, false, cond}
 use native.Mathlib.Omega.{arith}
-use lib.Ieee.{Float}
-use Rattle.event.specs.declared.Event.{Event}
-use Rattle.floats.specs.Arithmetic.{_≤ᶠ_, _-ᵈ_, _×ᵈ_}
-use Rattle.floats.specs.Floats.{index}
 use Rattle.ledger.specs.BlockSamples as Block
-use Rattle.ledger.specs.BlockSamples.{endPlace}
 use Rattle.mixing.specs.declared.Span.{Span}
 
 -- of a size above 64, 64 count
@@ -27,12 +21,3 @@ cleared-is n h =
 
 pub cleared-within : (n : ℕ) → clearedPlaces n ≤ 64
 cleared-within n = omega arith
-
--- ---- an event ends within the block
-pub end-within : (b : Block.Span) (e : Event) → endPlace b e ≤ b .size
-unfolding endPlace
-end-within b e = go (b .upto ≤ᶠ e .«end_time»)
-  where
-    go : (t : Bool) → cond t (b .size) (min (b .size) (index ((e .«end_time» -ᵈ b .clock) ×ᵈ b .rate))) ≤ b .size
-    go true = omega arith
-    go false = omega arith

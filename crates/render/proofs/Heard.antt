@@ -164,7 +164,7 @@ module _ (l : Ledger) (n : ℕ) (pool : List Float) where
 
   -- 10, of an output of k places
   other : ℕ → Bool
-  other k = not (eqb k (64 * l .channels) && eqb (64 * l .channels) (64 * l .channels))
+  other k = not (eqb k (64 * l .channels) && true)
 
   -- a block that is not refused has at most 64 samples
   pub accepted-size : (out : List Float) → refusalOf (step l (block n pool out none) .reply .answer) ≡ 0 → n ≤ 64

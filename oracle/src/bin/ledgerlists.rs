@@ -288,18 +288,21 @@ impl<P: Player> Trial<'_, P> {
         } else {
             whole
         };
-        let wrong = Some(self.random.pick(&[0, whole - 1, whole + 1]));
+        let one = BLOCK as u16;
+        // with one channel 64 samples are the whole
+        let former = if whole == one { 0 } else { whole };
+        let wrong = Some(self.random.pick(&[former, one - 1, one + 1]));
         let scratch = self.random.pick(&[
             None,
             None,
             None,
-            Some(whole),
-            Some(whole),
-            Some(whole),
-            Some(whole),
-            Some(whole),
-            Some(whole),
-            Some(whole),
+            Some(one),
+            Some(one),
+            Some(one),
+            Some(one),
+            Some(one),
+            Some(one),
+            Some(one),
             wrong,
         ]);
         Call::BlockLent(size, output, scratch)

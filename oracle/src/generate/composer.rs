@@ -236,13 +236,13 @@ impl Composer<'_> {
                     self.random
                         .pick(&[whole, whole, whole, whole, 0, whole - 1, whole + 64]);
                 let scratch = self.random.pick(&[
-                    Some(whole),
-                    Some(whole),
+                    Some(64),
+                    Some(64),
                     None,
                     None,
                     Some(0),
-                    Some(64),
-                    Some(whole + 1),
+                    Some(whole),
+                    Some(65),
                 ]);
                 let size = if self.random.chance(10) { 65 } else { size };
                 Call::BlockLent(size, output, scratch)

@@ -237,11 +237,8 @@ impl Ledger {
                     *place += sample;
                 }
             }
-            for channel in scratch
-                .iter_mut()
-                .flat_map(|scratch| scratch.chunks_exact_mut(64))
-            {
-                channel[..run.len()].copy_from_slice(&run);
+            if let Some(scratch) = &mut scratch {
+                scratch[..run.len()].copy_from_slice(&run);
             }
         });
         self.given = given;

@@ -62,11 +62,12 @@ pub fn tick(ledger: &Ledger, output: usize) -> [(u8, bool); 2] {
     ]
 }
 
-/// Refusals 10 to 12 of a block.
+/// Refusals 10 to 12 of a block. Paper 7: "A block now gets 64 scratch samples in place of 64 for every channel, and where they
+/// are lent, 10 asks for 64."
 pub fn block(ledger: &Ledger, n: usize, output: usize, scratch: Option<usize>) -> [(u8, bool); 3] {
-    let whole = 64 * ledger.channels;
+    let lent_otherwise = output != 64 * ledger.channels || !matches!(scratch, None | Some(64));
     [
-        (10, output != whole || scratch.unwrap_or(whole) != whole),
+        (10, lent_otherwise),
         (11, n > 64),
         (12, beyond(ledger.t + ledger.d * n as f64)),
     ]

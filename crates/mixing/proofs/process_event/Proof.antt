@@ -3,7 +3,8 @@ use Prim.Native.Nat.{_-_}
 use native.Mathlib.Omega.{arith}
 use borrow.Author.Tests.{lt-ltb, le-ltb}
 use Rattle.ledger.specs.BlockSamples.{channelAfter, afterBlock}
-use Rattle.mixing.specs.Blocks.{asSpan, end-within}
+use Rattle.ledger.specs.WithinBlock.{end-within}
+use Rattle.mixing.specs.Blocks.{asSpan}
 use borrow.Author.Needs.{needs}
 use Rattle.mixing.proofs.process_event.Statement.{statement}
 use Rattle.mixing.proofs.process_event.Tie as tie
