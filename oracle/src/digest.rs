@@ -3,7 +3,7 @@
 //! no order changes their digests.
 
 use crate::call::{Curve, Source};
-use crate::player::Answer;
+use crate::player::{Answer, Places};
 use crate::state::{EditState, EventState, MessageState, State};
 use std::io::{self, Write};
 
@@ -22,16 +22,21 @@ fn unordered(things: impl Iterator<Item = Vec<u64>>) -> u64 {
     things.map(ordered).fold(0, u64::wrapping_add)
 }
 
-/// The line of a record. A desk's queues are listed too.
+/// The line of a record. A desk's queues are listed too, and an accepted block's places where they are given.
 pub fn line(
     out: &mut impl Write,
     kind: u8,
     answer: Answer,
+    places: Option<Places>,
     channels: usize,
     state: &State,
     desk: bool,
 ) -> io::Result<()> {
-    write!(out, "{kind:02x} answer={}", answer_text(answer))?;
+    let answer = match places {
+        Some(Places { kept, forced, edge }) => format!("rendered:{kept}:{forced}:{edge}"),
+        None => answer_text(answer),
+    };
+    write!(out, "{kind:02x} answer={answer}")?;
     let waiting = unordered(state.waiting.iter().map(event_words));
     let sounding = ordered(state.sounding.iter().flat_map(event_words));
     let finished = ordered(state.finished.iter().flat_map(event_words));

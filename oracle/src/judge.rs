@@ -1,6 +1,7 @@
 //! What a tape is measured by. Document 02, Paper 5: the Rust has no gain, so it is the measure where all gains of a tape are
 //! 1.0; for other gains it is the ledger, with the gain's multiplication written in.
 
+use crate::beside::Beside;
 use crate::call::Call;
 use crate::desk::Desk;
 use crate::engine::Engine;
@@ -31,7 +32,7 @@ pub fn judge(format: Format, tape: &[u8]) -> Judge {
     }
 }
 
-/// Print a tape's listing by its judge.
+/// Print a tape's listing by its judge. The Rust counts no places: those are the ledger's, whatever else is the original's.
 pub fn play(
     format: Format,
     detail: Detail,
@@ -39,6 +40,19 @@ pub fn play(
     pool: &Pool,
     out: &mut impl Write,
 ) -> io::Result<()> {
+    if detail == Detail::Places && judge(format, tape) == Judge::Original {
+        let variants = ((), None);
+        return match format {
+            Format::Desk => {
+                type Both = Beside<Desk, DeskLedger>;
+                listing::play::<Both>(format, detail, variants, tape, pool, out)
+            }
+            _ => {
+                type Both = Beside<Engine, Ledger>;
+                listing::play::<Both>(format, detail, variants, tape, pool, out)
+            }
+        };
+    }
     match (judge(format, tape), format) {
         (Judge::Original, Format::Desk) => {
             listing::play::<Desk>(format, detail, (), tape, pool, out)

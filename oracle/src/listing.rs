@@ -2,7 +2,7 @@
 
 use crate::call::{Call, Curve, Mode, Source};
 use crate::digest;
-use crate::player::{Answer, Player, Pool};
+use crate::player::{Answer, Places, Player, Pool};
 use crate::session::{Session, Step};
 use crate::state::{Counts, EditState, EventState, MessageState, State, sample_bits};
 use crate::tape::{self, Format};
@@ -18,6 +18,8 @@ pub enum Detail {
     /// The whole state as digests of named parts (src/digest.rs), for a program without decimal floats: of an engine in place
     /// of `trail`'s lines, of a desk behind them.
     Digest,
+    /// The same, with the counts of an accepted block's places as its answer (document 02, Paper 12).
+    Places,
     /// Answer, numbers, clock, lists, edits, index, whole output and scratch too.
     Full,
 }
@@ -42,7 +44,7 @@ pub fn play<P: Player>(
                     // Before the first record stands a fresh engine of one channel.
                     let fresh = || P::create(variant, 1, Mode::All, 1).0;
                     let player = session.map_or_else(fresh, |session| session.player);
-                    return state(out, format, stop.kind, answer, &player);
+                    return state(out, format, stop.kind, answer, None, &player);
                 }
                 let counts = session.as_ref().map(|session| session.player.counts());
                 return line(out, stop.kind, stop.refusal, counts.unwrap_or_default());
@@ -55,7 +57,7 @@ pub fn play<P: Player>(
                 let (created, answer) = Session::create(variant, &call, pool);
                 if answer.refusal() != 0 {
                     if states_only(format, detail) {
-                        return state(out, format, call.kind(), answer, &created.player);
+                        return state(out, format, call.kind(), answer, None, &created.player);
                     }
                     return line(out, call.kind(), answer.refusal(), Counts::default());
                 }
@@ -88,7 +90,7 @@ fn line(out: &mut impl Write, kind: u8, refusal: u8, counts: Counts) -> io::Resu
 
 /// An engine's digests stand alone.
 fn states_only(format: Format, detail: Detail) -> bool {
-    detail == Detail::Digest && format != Format::Desk
+    matches!(detail, Detail::Digest | Detail::Places) && format != Format::Desk
 }
 
 fn state<P: Player>(
@@ -96,10 +98,21 @@ fn state<P: Player>(
     format: Format,
     kind: u8,
     answer: Answer,
+    places: Option<Places>,
     player: &P,
 ) -> io::Result<()> {
-    let desk = format == Format::Desk;
-    digest::line(out, kind, answer, player.channels(), &player.state(), desk)
+    let (desk, channels) = (format == Format::Desk, player.channels());
+    digest::line(out, kind, answer, places, channels, &player.state(), desk)
+}
+
+/// The counts of an accepted block's places, where they are asked for.
+fn places<P: Player>(detail: Detail, call: &Call, step: Step, player: &P) -> Option<Places> {
+    let block = matches!(call, Call::Block(_) | Call::BlockLent(..)) && step.samples.is_some();
+    if detail == Detail::Places && block {
+        player.places()
+    } else {
+        None
+    }
 }
 
 fn record<P: Player>(
@@ -111,8 +124,9 @@ fn record<P: Player>(
     session: &Session<P>,
 ) -> io::Result<()> {
     let player = &session.player;
+    let places = places(detail, call, step, player);
     if states_only(format, detail) {
-        return state(out, format, call.kind(), step.answer, player);
+        return state(out, format, call.kind(), step.answer, places, player);
     }
     line(out, call.kind(), step.answer.refusal(), player.counts())?;
     if let Some(count) = step.samples {
@@ -123,7 +137,9 @@ fn record<P: Player>(
     match detail {
         Detail::Listing => Ok(()),
         Detail::Queues => queues(out, &player.state()),
-        Detail::Digest => state(out, format, call.kind(), step.answer, player),
+        Detail::Digest | Detail::Places => {
+            state(out, format, call.kind(), step.answer, places, player)
+        }
         Detail::Full => {
             full(out, step.answer, &player.state())?;
             whole(out, "output", &session.output)?;

@@ -30,6 +30,17 @@ impl Answer {
     }
 }
 
+/// Document 02, Paper 12: how the s, z and fade places of a block came, each counted once.
+#[derive(Clone, Copy, PartialEq, Eq, Debug, Default)]
+pub struct Places {
+    /// As rounded.
+    pub kept: u64,
+    /// By the index step, by a cut to the block's size or to 64, or a rounded fade-out place raised to s.
+    pub forced: u64,
+    /// Without the index step.
+    pub edge: u64,
+}
+
 /// The pool of samples that is lent to a call.
 pub type Pool = Rc<[f32]>;
 
@@ -58,4 +69,8 @@ pub trait Player: Sized {
     fn state(&self) -> State;
     /// How many first places of a lent scratch, which has 64 samples, the last call decides.
     fn scratch_given(&self) -> Option<usize>;
+    /// How the places of the last accepted block came, if this player counts them.
+    fn places(&self) -> Option<Places> {
+        None
+    }
 }

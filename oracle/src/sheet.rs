@@ -196,8 +196,9 @@ fn curve_points() -> Result<(), String> {
 
 /// Case 2.
 fn indexes() -> Result<(), String> {
-    for (x, index) in [(0.5, 1), (2.5, 3), (-0.5, 0)] {
-        if round(x) as usize != index || numbers::index(x) != index as u64 {
+    use numbers::Word::{Free, Raised};
+    for (x, index, word) in [(0.5, 1, Free), (2.5, 3, Free), (-0.5, 0, Raised)] {
+        if round(x) as usize != index || numbers::index(x) != (index as u64, word) {
             return Err(format!("case 2: index of {x}"));
         }
     }

@@ -9,6 +9,9 @@ use std::process::{Command, Output, Stdio};
 const LISTING: &[&str] = &[];
 const STATES: &[&str] = &["--digest"];
 const DESK: &[&str] = &["--desk"];
+/// States with the counts of a block's places.
+const PLACES: &[&str] = &["--digest", "--places"];
+const DESK_PLACES: &[&str] = &["--desk", "--places"];
 
 fn compare(what: &[&str], profile: &str, mutation: Option<&str>) -> Output {
     let mut command = Command::new(env!("CARGO_BIN_EXE_compare"));
@@ -50,13 +53,24 @@ fn named(what: &[&str], profile: &str, mutation: &str, parts: &str) {
 
 #[test]
 fn the_ledger_itself_passes() {
-    for profile in ["small", "swaps", "fades", "edits", "modes", "blocks", "gains-one", "gains"] {
-        for what in [LISTING, STATES] {
+    for profile in [
+        "small",
+        "swaps",
+        "fades",
+        "edits",
+        "modes",
+        "blocks",
+        "gains-one",
+        "gains",
+    ] {
+        for what in [LISTING, STATES, PLACES] {
             let output = compare(what, profile, None);
             assert!(output.status.success(), "{output:?}");
         }
     }
-    assert!(compare(DESK, "desk-resets", None).status.success());
+    for what in [DESK, DESK_PLACES] {
+        assert!(compare(what, "desk-resets", None).status.success());
+    }
 }
 
 #[test]
@@ -95,6 +109,17 @@ fn ramp_goes_on_with_the_gain() {
 #[test]
 fn gain_0_holds_the_source() {
     named(STATES, "gains", "gain-zero-holds", "sounding");
+}
+
+#[test]
+fn edge_raised_counts_as_forced() {
+    named(PLACES, "edits", "edge-raised-is-forced", "answer");
+}
+
+#[test]
+fn silent_not_counted() {
+    named(PLACES, "blocks", "silent-not-counted", "answer");
+    named(DESK_PLACES, "desk-small", "silent-not-counted", "answer");
 }
 
 #[test]

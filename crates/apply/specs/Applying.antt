@@ -8,7 +8,7 @@ use lib.ListN.{length, take, drop}
 use Rattle.sequencer.specs.declared.Sequencer.{Sequencer}
 use Rattle.sequencer.specs.declared.Outcome.{Outcome}
 use Rattle.sequencer.specs.declared.Answer.{Answer}
-use Rattle.sequencer.specs.declared.Answer.the-variants.{Number, Applied as applied, Past, Stored, Done, Refused}
+use Rattle.sequencer.specs.declared.Answer.the-variants.{Number, Applied as applied, Past, Stored, Done, Rendered, Refused}
 use Rattle.sequencer.specs.Creation.{created}
 use Rattle.sequencer.specs.Pushes.{pushes}
 use Rattle.sequencer.specs.Edits.{edits}
@@ -28,6 +28,7 @@ refusalOf applied = 0
 refusalOf Past = 0
 refusalOf Stored = 0
 refusalOf Done = 0
+refusalOf (Rendered c) = 0
 
 -- a call that has no samples
 abbrev pub silent : Sequencer → (refusal : ℕ) → Applied

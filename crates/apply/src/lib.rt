@@ -1,12 +1,12 @@
 // A record's call carried out on the engine: state in, state out.
 ghost use mathlib.Core.Path.{_≡_};
-ghost use Prim.Native.Nat.{min};
 ghost use lib.ListN.{replicate};
 ghost use Rattle.floats.specs.Arithmetic.{zeroᶠ};
 ghost use Rattle.event.specs.declared.ReplayMode.the-variants.{All};
 ghost use Rattle.sequencer.specs.Creation.{created};
 ghost use Rattle.apply.specs.Applying.{refusalOf, silentOf, soundingOf, ticking, tickingOut, processing, processingOut, pushKindOf, pushed, appliedTo, appliedOut};
 use event::ReplayMode;
+use runs::least;
 use sequencer::Answer;
 use sequencer::Outcome;
 use sequencer::Sequencer;
@@ -22,12 +22,6 @@ pub struct Applied {
     pub stride: usize,
 }
 
-fn least(a: usize, b: usize) -> usize
-    ensures { λ r. ⌜ r ≡ min a b ⌝ }
-{
-    if a < b { a } else { b }
-}
-
 fn refusal(answer: Answer) -> u64
     ensures { λ r. ⌜ r ≡ refusalOf answer ⌝ }
 {
@@ -38,6 +32,7 @@ fn refusal(answer: Answer) -> u64
         Answer::Past => 0,
         Answer::Stored => 0,
         Answer::Done => 0,
+        Answer::Rendered(_) => 0,
     }
 }
 

@@ -20,11 +20,11 @@ use Rattle.lists.specs.declared.Found.{Found}
 use Rattle.lists.specs.declared.Found.the-variants.{At, Nothing}
 use Rattle.sequencer.specs.declared.Sequencer.{Sequencer}
 use Rattle.sequencer.specs.declared.Outcome.{Outcome}
-use Rattle.sequencer.specs.Answers.{answerOf, accepts, refuses}
+use Rattle.sequencer.specs.Answers.{answerOf, accepts, renders, refuses}
 use Rattle.sequencer.specs.Pushes.{admitted, pushesTo, pushes}
 use Rattle.sequencer.specs.Edits.{changedBy, changed, amended, edits}
 use Rattle.sequencer.specs.Readers.{placeIn}
-use Rattle.sequencer.specs.Rendering.{renderedTick, renderedTickOut, ticks, tickOuts, renderedBlock, renderedBlockOut, blocks, blockOuts}
+use Rattle.sequencer.specs.Rendering.{renderedTick, renderedTickOut, ticks, tickOuts, renderedBlock, renderedPlaces, renderedBlockOut, blocks, blockOuts}
 use Rattle.sequencer.specs.Resets.{reRated, rates}
 use Rattle.claim.specs.EngineCalls.{gives, engineCall}
 
@@ -62,6 +62,6 @@ refused-unchanged s (tick pool out) k h =
     by-test s k n (eqb n 0) (accepts (renderedTick pool s)) (λ b. cond b (renderedTickOut pool s out) out) refl h
 refused-unchanged s (block m pool out scratch) k h =
     let n = processRefusal m (length out) (s .outputs) (s .time) (s .«sample_duration») in
-    by-test s k n (eqb n 0) (accepts (renderedBlock pool m s)) (λ b. cond b (renderedBlockOut pool m s out) out) refl h
+    by-test s k n (eqb n 0) (renders (renderedBlock pool m s) (renderedPlaces m s)) (λ b. cond b (renderedBlockOut pool m s out) out) refl h
 refused-unchanged s (rate r) k h = by-test s k (rateRefusal r) (eqb (rateRefusal r) 0) (accepts (reRated s r)) (λ b. []) refl h
 refused-unchanged s reset k h = absurd (let z : none ≡ some k = ap refusedWith h in let w : _≡_ {A = ℕ} 0 1 = cc in omega arith)

@@ -10,19 +10,23 @@ use lib.ListN.{length, take, replicate, length-replicate}
 use lib.Seq.{take-all}
 use Rattle.event.specs.declared.Event.{Event}
 use Rattle.event.specs.Events.{blank, withUnit}
+use Rattle.event.specs.declared.Placings.{Placings}
+use Rattle.event.specs.Placings.{noPlacings, addAll, addAll-append, tally, counts-agree}
 use Rattle.event.specs.Sources.{advancedBy}
 use Rattle.floats.specs.Arithmetic.{zeroᶠ}
-use Rattle.lists.specs.Holds.{holds-to}
+use Rattle.lists.specs.Holds.{holds-to, holds-length}
 use Rattle.lists.specs.Sounding.{idOf}
 use Rattle.ledger.specs.TickSamples.{afterTick, tickSum}
-use Rattle.ledger.specs.BlockSamples.{Span, firstPlace, endPlace, fadedRun, addAt, channelAfter, scratchAfter, afterBlock, blockSum}
+use Rattle.ledger.specs.BlockSamples.{Span, firstPlace, endPlace, channelAfter, scratchAfter, afterBlock, blockSum}
+use Rattle.ledger.specs.FormerMethod as Former
+use Rattle.ledger.specs.Places.{eventPlacings, placings, placings-within}
 use Rattle.ledger.specs.Ledger.{Ledger}
 use Rattle.ledger.specs.Steps as Plain
 use Rattle.ledger.specs.Steps.{cleared}
 use Rattle.mixing.specs.Blocks.{clearedPlaces, cleared-is, cleared-within}
 use Rattle.sequencer.specs.declared.Sequencer.{Sequencer}
 use Rattle.sequencer.specs.Parts.{withSounding}
-use Rattle.sequencer.specs.Rendering.{passes, addTick, tickPass, addBlock, blockPass}
+use Rattle.sequencer.specs.Rendering.{passes, addTick, tickPass, addBlock, blockPass, addPlaces, placesPass}
 use Rattle.claim.specs.Related.{Related}
 use Rattle.claim.specs.Passes.{holds-pass}
 
@@ -45,34 +49,9 @@ module _ (pool : List Float) (b : Span) where
   block-channel [] channel scratch = refl
   block-channel (e ∷ l) channel scratch = block-channel l (channelAfter pool b e channel) (scratchAfter pool b e scratch)
 
-  block-events : (l : List Event) (channel scratch : List Float) → map (afterBlock b) l ≡ blockSum pool b l channel scratch .events
-  unfolding blockSum
-  block-events [] channel scratch = refl
-  block-events (e ∷ l) channel scratch = ap (λ (r : List Event). afterBlock b e ∷ r) (block-events l (channelAfter pool b e channel) (scratchAfter pool b e scratch))
-
-  -- a channel keeps its length
-  length-added : (s : ℕ) (run l : List Float) → length (addAt s run l) ≡ length l
-  unfolding addAt
-  length-added zero run [] = refl
-  length-added (suc s) run [] = refl
-  length-added (suc s) run (x ∷ l) = ap suc (length-added s run l)
-  length-added zero [] (x ∷ l) = refl
-  length-added zero (y ∷ run) (x ∷ l) = ap suc (length-added zero run l)
-
-  length-after : (e : Event) (channel : List Float) → length (channelAfter pool b e channel) ≡ length channel
-  unfolding channelAfter
-  length-after e channel = go (ltb (firstPlace b e) (endPlace b e))
-    where
-      run : List Float
-      run = fadedRun pool b (firstPlace b e) (endPlace b e) e
-
-      go : (t : Bool) → length (cond t (addAt (firstPlace b e) run channel) channel) ≡ length channel
-      go true = length-added (firstPlace b e) run channel
-      go false = refl
-
   pub length-channel : (l : List Event) (channel : List Float) → length (foldl (addBlock pool b) channel l) ≡ length channel
   length-channel [] channel = refl
-  length-channel (e ∷ l) channel = length-channel l (channelAfter pool b e channel) ∙ length-after e channel
+  length-channel (e ∷ l) channel = length-channel l (channelAfter pool b e channel) ∙ Former.length-channel pool b e channel
 
 -- ---- a pass over the sounding array keeps the relation
 
@@ -116,6 +95,21 @@ related-block pool b n s l h r =
     let k = related-pass (afterBlock b) (addBlock pool b) z (after-id b) s l r in
     let same : z ≡ cleared n = ap (λ (m : ℕ). replicate m zeroᶠ) (cleared-is n h) in
     let short : length (foldl (addBlock pool b) z (l .sounding)) ≤ 64 = omega (arith, length-channel pool b (l .sounding) z, length-replicate (clearedPlaces n) zeroᶠ, cleared-within n) in (
-      subst (λ (x : List Event). Related (withSounding s (blockPass pool b n s .items)) (Plain.withSounding l x)) (block-events pool b (l .sounding) (cleared n) []) (k .0),
+      subst (λ (x : List Event). Related (withSounding s (blockPass pool b n s .items)) (Plain.withSounding l x)) (Former.events-once pool b (l .sounding) (cleared n) []) (k .0),
       ap (take 64) (k .1) ∙ take-all 64 (foldl (addBlock pool b) z (l .sounding)) short ∙ ap (λ (x : List Float). foldl (addBlock pool b) x (l .sounding)) same ∙ block-channel pool b (l .sounding) (cleared n) [],
     )
+
+-- how the places of a block came
+
+fold-places : (b : Span) (l : List Event) (c : Placings) → foldl (addPlaces b) c l ≡ addAll c (placings b l)
+unfolding placings
+fold-places b [] c = refl
+fold-places b (e ∷ l) c = fold-places b l (addPlaces b c e) ∙ sym (addAll-append c (eventPlacings b e) (placings b l))
+
+pub related-places : (b : Span) (s : Sequencer) (l : Ledger) → Related s l → placesPass b s .sum ≡ tally (placings b (l .sounding))
+unfolding placesPass
+related-places b s l r =
+    let h = r .lists .1 in
+    related-pass (afterBlock b) (addPlaces b) noPlacings (after-id b) s l r .1
+    ∙ fold-places b (l .sounding) noPlacings
+    ∙ counts-agree (placings b (l .sounding)) (omega (arith, placings-within b (l .sounding), h .fits, holds-length h))

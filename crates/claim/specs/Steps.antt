@@ -18,7 +18,9 @@ use Rattle.ready.specs.Waits.{waits-length}
 use Rattle.lists.specs.Holds.{holds-length}
 use Rattle.lists.specs.EditList.{edits-find}
 use Rattle.lists.specs.Sounding.{index-find}
-use Rattle.ledger.specs.Calls.{Call, PushKind, EditKind, push, edit, tick, block, rate, reset, Answer, Reply, done}
+use Rattle.event.specs.Placings.{tally}
+use Rattle.ledger.specs.Places.{placings}
+use Rattle.ledger.specs.Calls.{Call, PushKind, EditKind, push, edit, tick, block, rate, reset, Answer, Reply, done, rendered}
 use Rattle.ledger.specs.Lists.{has, editOf}
 use Rattle.ledger.specs.TickSamples.{tickSum}
 use Rattle.ledger.specs.BlockSamples.{Span, BlockSum, blockSum, overlay}
@@ -33,14 +35,14 @@ use Rattle.ledger.specs.LedgerMeets.{same-reply}
 use Rattle.ledger.specs.Claim.{SameReply, Lends}
 use Rattle.sequencer.specs.declared.Sequencer.{Sequencer}
 use Rattle.sequencer.specs.declared.Outcome.{Outcome}
-use Rattle.sequencer.specs.Answers.{answerOf, accepts, refuses}
+use Rattle.sequencer.specs.Answers.{answerOf, accepts, renders, refuses}
 use Rattle.sequencer.specs.Parts.{withSounding}
 use Rattle.sequencer.specs.Moves.{advanced}
 use Rattle.refusals.specs.Refusals.{pushRefusal, editRefusal, tickRefusal, processRefusal, rateRefusal}
 use Rattle.sequencer.specs.Pushes.{admitted, pushesTo, pushes}
 use Rattle.sequencer.specs.Edits.{changed, amended, edits}
 use Rattle.sequencer.specs.Readers.{placeIn}
-use Rattle.sequencer.specs.Rendering.{tickEnd, tickPass, renderedTick, renderedTickOut, ticks, tickOuts, blockEnd, spanOf, blockPass, renderedBlock, renderedBlockOut, blocks, blockOuts}
+use Rattle.sequencer.specs.Rendering.{tickEnd, tickPass, renderedTick, renderedTickOut, ticks, tickOuts, blockEnd, spanOf, blockPass, placesPass, renderedBlock, renderedPlaces, renderedBlockOut, blocks, blockOuts}
 use Rattle.sequencer.specs.Resets.{reRated, rates, resets}
 use Rattle.claim.specs.Related.{Related}
 use Rattle.claim.specs.Entering.{related-admitted}
@@ -49,7 +51,7 @@ use Rattle.claim.specs.AllToReady.{related-rate}
 use Rattle.claim.specs.Resetting.{related-reset}
 use Rattle.claim.specs.Changing.{related-change}
 use Rattle.claim.specs.RefusalsAgree.{Agrees, spent, push-refused, edit-refused, tick-refused, block-refused, rate-refused}
-use Rattle.claim.specs.SamplesAgree.{related-tick, related-block}
+use Rattle.claim.specs.SamplesAgree.{related-tick, related-block, related-places}
 use Rattle.claim.specs.EngineCalls.{gives, engineCall}
 
 abbrev pub Keeps : Sequencer × Reply → Plain.Outcome → Type 0
@@ -216,7 +218,7 @@ module _ (s : Sequencer) (l : Ledger) (pool out : List Float) where
 
 module _ (s : Sequencer) (l : Ledger) (n : ℕ) (pool out : List Float) where
   pub keep-block : Lawful l → Related s l → Keeps (gives (blocks pool n (length out) s) (blockOuts pool n s out)) (step l (block n pool out none))
-  unfolding blocks blockOuts renderedBlock renderedBlockOut accept checks Checks.blockEnd
+  unfolding blocks blockOuts renderedBlock renderedPlaces renderedBlockOut accept checks Checks.blockEnd
   keep-block w r = by-refusal s l C N X r (block-refused l n pool out (s .outputs) (s .time) (s .«sample_duration») (r .plain .4) (r .plain .0) (r .plain .3)) refl carried
     where
       C : Call
@@ -226,7 +228,7 @@ module _ (s : Sequencer) (l : Ledger) (n : ℕ) (pool out : List Float) where
       N = processRefusal n (length out) (s .outputs) (s .time) (s .«sample_duration»)
 
       X : Bool → Sequencer × Reply
-      X b = gives (cond b (accepts (renderedBlock pool n s)) (refuses s N)) (cond b (renderedBlockOut pool n s out) out)
+      X b = gives (cond b (renders (renderedBlock pool n s) (renderedPlaces n s)) (refuses s N)) (cond b (renderedBlockOut pool n s out) out)
 
       E : Float
       E = l .clock +ᵈ l .duration ×ᵈ whole n
@@ -246,11 +248,15 @@ module _ (s : Sequencer) (l : Ledger) (n : ℕ) (pool out : List Float) where
       Same e b =
           Related (withSounding (advanced s e) (blockPass pool b n (advanced s e) .items)) (Plain.withSounding (advance l E) (Sum .events))
           × (take 64 (blockPass pool b n (advanced s e) .sum) ≡ Sum .channel)
+          × (placesPass b (advanced s e) .sum ≡ tally (placings (Plain.spanOf l n) (advance l E .sounding)))
 
       same : n ≤ 64 → Same (blockEnd s n) (spanOf s n)
       same h =
           subst (λ (b : Span). Same (blockEnd s n) b) (sym (spans h))
-          (subst (λ (e : Float). Same e (Plain.spanOf l n)) (sym ends) (related-block pool (Plain.spanOf l n) n (advanced s E) (advance l E) h (related-advance s l E w r)))
+          (subst (λ (e : Float). Same e (Plain.spanOf l n)) (sym ends)
+          (let a = related-advance s l E w r in
+          let k = related-block pool (Plain.spanOf l n) n (advanced s E) (advance l E) h a in
+          (k .0, k .1, related-places (Plain.spanOf l n) (advanced s E) (advance l E) a)))
 
       carried : refusal l C ≡ none → Keeps (X true) (accept l C)
       carried q =
@@ -258,7 +264,7 @@ module _ (s : Sequencer) (l : Ledger) (n : ℕ) (pool out : List Float) where
           let long : length out ≡ 64 * l .channels = eqb→eq (length out) (64 * l .channels) (first-of (eqb (length out) (64 * l .channels)) true (p .0)) in
           let rows : length out / 64 ≡ l .channels = omega arith in
           let k = same (nltb→le 64 n (p .1 .0)) in
-          (k .0, record { answer = refl; out = ap (λ (x : List Float). overlay (length out / 64) x out) (k .1) ∙ ap (λ (c : ℕ). overlay c (Sum .channel) out) rows; scratch = tt })
+          (k .0, record { answer = ap rendered (k .2); out = ap (λ (x : List Float). overlay (length out / 64) x out) (k .1) ∙ ap (λ (c : ℕ). overlay c (Sum .channel) out) rows; scratch = tt })
 
 -- ---- a rate and a reset
 

@@ -16,7 +16,7 @@ use Rattle.ledger.specs.Ledger.{create}
 use Rattle.ledger.specs.Refusals.{statedEnd}
 use Rattle.ledger.specs.Numbers.{among, times}
 use Rattle.ledger.specs.Claim.{View, SameState, IndexGivesPlaces}
-use Rattle.desk.specs.Desk.{Message, push, edit, reset, Call, front, back, Answer, number, queued, done, refused, Reply, Desk, nextNumber, opened, run}
+use Rattle.desk.specs.Desk.{Message, push, edit, reset, Call, front, back, Answer, number, queued, done, rendered, refused, Reply, Desk, nextNumber, opened, run}
 
 -- ---- a desk with an engine
 
@@ -92,6 +92,7 @@ abbrev pub acceptedOf : Answer → List ℕ
 acceptedOf (number k) = k ∷ []
 acceptedOf queued = []
 acceptedOf done = []
+acceptedOf (rendered c) = []
 acceptedOf (refused k) = []
 
 abbrev pub accepted : List Reply → List ℕ

@@ -7,6 +7,7 @@ use lib.Dec.{leb}
 use lib.ListN.{length, take}
 use lib.Ieee.{Float, sub, lt}
 use Rattle.event.specs.declared.Fade.{Fade}
+use Rattle.event.specs.declared.Placings.{Placings}
 use Rattle.event.specs.declared.Source.{Source}
 use Rattle.event.specs.declared.ReplayMode.{ReplayMode}
 use Rattle.event.specs.declared.ReplayMode.the-variants.{All, None}
@@ -16,7 +17,7 @@ use Rattle.ledger.specs.Calls.{PushKind, EditKind}
 use Rattle.ledger.specs.Lists.{numbers}
 use Rattle.ledger.specs.Ledger.{Ledger, held}
 use Rattle.ledger.specs.Refusals.{Check, refuses, firstOf, within, withinEnd, statedEnd, pushChecksAt, refusal}
-use Rattle.ledger.specs.Steps.{withLists, accept, restart}
+use Rattle.ledger.specs.Steps.{withLists, accept, restart, blockPlaces}
 
 -- ---- calls and answers
 
@@ -40,6 +41,7 @@ pub data Call : Type 0 where
 pub data Answer : Type 0 where
   number : ℕ → Answer
   queued done : Answer
+  rendered : Placings → Answer
   refused : ℕ → Answer
 
 -- what a call gives back: its answer, and the output that it was lent
@@ -177,7 +179,7 @@ acts d (tick pool out) =
     record { desk = sendFinished (d .back .mode) (withBack (o .ledger) d); reply = record { answer = done; out = o .reply .out } }
 acts d (block n pool out) =
     let o = accept (d .back) (Calls.block n pool out none) in
-    record { desk = sendFinished (d .back .mode) (withBack (o .ledger) d); reply = record { answer = done; out = o .reply .out } }
+    record { desk = sendFinished (d .back .mode) (withBack (o .ledger) d); reply = record { answer = rendered (blockPlaces (d .back) n); out = o .reply .out } }
 acts d (rate r) = record { desk = withBack (accept (d .back) (Calls.rate r) .ledger) d; reply = record { answer = done; out = [] } }
 acts d reset = record { desk = resetOf d; reply = record { answer = done; out = [] } }
 

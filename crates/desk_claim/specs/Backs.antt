@@ -1,6 +1,6 @@
 -- Every call of the back, refused or not, keeps the relation and gives back what the desk ledger's gives. It is refused before draining, and carried out after it. Assumes nothing.
 use Prim.Native.Nat.{ℕ}
-use mathlib.Core.Path.{_≡_, refl, sym, ap, _∙_, subst}
+use mathlib.Core.Path.{_≡_, refl, sym, ap, ap₂, _∙_, subst}
 use mathlib.Core.Bool.{Bool, true, cond}
 use mathlib.Core.List.{List, []}
 use mathlib.Core.Option.{Option, none}
@@ -8,17 +8,19 @@ use lib.Dec.{eqb}
 use lib.Ieee.{Float}
 use lib.ListN.{length}
 use Rattle.event.specs.declared.ReplayMode.{ReplayMode}
+use Rattle.event.specs.declared.Placings.{Placings}
+use Rattle.event.specs.Placings.{noPlacings}
 use Rattle.ledger.specs.Calls as Calls
 use Rattle.ledger.specs.Ledger.{Ledger}
 use Rattle.ledger.specs.Refusals.{firstOf, checks, refusal}
 use Rattle.ledger.specs.Steps as Steps
-use Rattle.ledger.specs.Steps.{accept, advance}
+use Rattle.ledger.specs.Steps.{accept, advance, blockPlaces}
 use Rattle.ledger.specs.Lawful.{Lawful}
 use Rattle.refusals.specs.Refusals.{tickRefusal, processRefusal, rateRefusal}
 use Rattle.sequencer.specs.declared.Sequencer.{Sequencer}
 use Rattle.sequencer.specs.Answers as Engine
 use Rattle.sequencer.specs.Rendering as Rendering
-use Rattle.sequencer.specs.Rendering.{renderedTick, renderedTickOut, renderedBlock, renderedBlockOut}
+use Rattle.sequencer.specs.Rendering.{renderedTick, renderedTickOut, renderedBlock, renderedPlaces, renderedBlockOut}
 use Rattle.sequencer.specs.Resets.{reRated}
 use Rattle.claim.specs.Related.{Related}
 use Rattle.claim.specs.AllToReady.{related-rate}
@@ -26,12 +28,12 @@ use Rattle.claim.specs.RefusalsAgree.{Agrees, tick-refused, block-refused, rate
 use Rattle.claim.specs.EngineCalls as EngineClaim
 use Rattle.claim.specs.Steps as Claim
 use Rattle.desk.specs.Desk as Plain
-use Rattle.desk.specs.Desk.{tick, block, rate, reset, back, Reply, done, Desk, withBack, sendFinished, deskRefusal, acts, carriedOut, decide, step}
+use Rattle.desk.specs.Desk.{tick, block, rate, reset, back, Reply, done, rendered, Desk, withBack, sendFinished, deskRefusal, acts, carriedOut, decide, step}
 use Rattle.desk.specs.Lawful.{DeskLawful, accept-lawful, drained-lawful, drained-empty, drained-free}
 use Rattle.realseq.specs.declared.SequencerBackend.{SequencerBackend}
 use Rattle.realseq.specs.Handling as Handling
 use Rattle.realseq.specs.Handling.{pastSentBy, pastSent, drained}
-use Rattle.realseq.specs.Answers.{refuses}
+use Rattle.realseq.specs.Answers.{renders, refuses}
 use Rattle.realseq.specs.Backs.{withEngine, tickNo, ticks, tickOuts, blockNo, blocks, blockOuts, rates}
 use Rattle.realseq.specs.Answers.{accepts}
 use Rattle.desk_claim.specs.Related.{DeskRelated, plain-of, empty-related}
@@ -41,6 +43,16 @@ use Rattle.desk_claim.specs.EngineCalls.{gives}
 use Rattle.desk_claim.specs.Refusals.{Keeps, by-refusal}
 
 -- ---- the engine, of a call that no refusal names
+
+-- the places that an answer tells
+abbrev placesIn : Calls.Answer → Placings
+placesIn (Calls.number k) = noPlacings
+placesIn Calls.applied = noPlacings
+placesIn Calls.past = noPlacings
+placesIn Calls.stored = noPlacings
+placesIn Calls.done = noPlacings
+placesIn (Calls.rendered c) = c
+placesIn (Calls.refused k) = noPlacings
 
 module _ (s : Sequencer) (l : Ledger) (w : Lawful l) (r : Related s l) where
   tick-carried : (pool out : List Float) → refusal l (Calls.tick pool out) ≡ none
@@ -56,16 +68,16 @@ module _ (s : Sequencer) (l : Ledger) (w : Lawful l) (r : Related s l) where
       (k .0, k .1 .out)
 
   block-carried : (n : ℕ) (pool out : List Float) → refusal l (Calls.block n pool out none) ≡ none
-      → Related (renderedBlock pool n s) (accept l (Calls.block n pool out none) .ledger) × (renderedBlockOut pool n s out ≡ accept l (Calls.block n pool out none) .reply .out)
-  unfolding Rendering.blocks Rendering.blockOuts Steps.step Steps.decide
+      → Related (renderedBlock pool n s) (accept l (Calls.block n pool out none) .ledger) × (renderedBlockOut pool n s out ≡ accept l (Calls.block n pool out none) .reply .out) × (renderedPlaces n s ≡ blockPlaces l n)
+  unfolding accept Rendering.blocks Rendering.blockOuts Steps.step Steps.decide
   block-carried size pool out h =
       let c = Calls.block size pool out none in
       let n = processRefusal size (length out) (s .outputs) (s .time) (s .«sample_duration») in
       let P : ℕ → Option ℕ → Type 0 = λ m o.
-      Claim.Keeps (EngineClaim.gives (cond (eqb m 0) (Engine.accepts (renderedBlock pool size s)) (Engine.refuses s m)) (cond (eqb m 0) (renderedBlockOut pool size s out) out)) (Steps.decide o l c) in
+      Claim.Keeps (EngineClaim.gives (cond (eqb m 0) (Engine.renders (renderedBlock pool size s) (renderedPlaces size s)) (Engine.refuses s m)) (cond (eqb m 0) (renderedBlockOut pool size s out) out)) (Steps.decide o l c) in
       let z : n ≡ 0 = subst (Agrees n) h (block-refused l size pool out (s .outputs) (s .time) (s .«sample_duration») (r .plain .4) (r .plain .0) (r .plain .3)) in
       let k : P 0 none = subst (P 0) h (subst (λ (m : ℕ). P m (refusal l c)) z (Claim.keep-block s l size pool out w r)) in
-      (k .0, k .1 .out)
+      (k .0, k .1 .out, ap placesIn (k .1 .answer))
 
 -- ---- the desk
 
@@ -78,8 +90,8 @@ module _ (d : SequencerBackend) (D : Desk) (w : DeskLawful D) (r : DeskRelated d
   law = drained-lawful D w .lawful
 
   -- the drained desk with another engine, and what it has finished sent back
-  rendered : (s : Sequencer) (l : Ledger) (m : ReplayMode) → l .mode ≡ m → Lawful l → Related s l → DeskRelated (pastSent (withEngine (drained d) s)) (sendFinished m (withBack l (Plain.drained D)))
-  rendered s l m e v h =
+  after-rendering : (s : Sequencer) (l : Ledger) (m : ReplayMode) → l .mode ≡ m → Lawful l → Related s l → DeskRelated (pastSent (withEngine (drained d) s)) (sendFinished m (withBack l (Plain.drained D)))
+  after-rendering s l m e v h =
       let g = drained-related d D w r in
       subst (λ (x : ReplayMode). DeskRelated (pastSentBy x (withEngine (drained d) s)) (sendFinished m (withBack l (Plain.drained D)))) (sym (h .plain .5 ∙ e))
       (past-related m (withEngine (drained d) s) (withBack l (Plain.drained D)) v
@@ -108,7 +120,7 @@ module _ (d : SequencerBackend) (D : Desk) (w : DeskLawful D) (r : DeskRelated d
           let l = Plain.drained D .back in
           let f = drained-free D w (tick pool out) h in
           let c = tick-carried b l law now pool out f in (
-            rendered (renderedTick pool b) (accept l (Calls.tick pool out) .ledger) (l .mode) refl (accept-lawful l (Calls.tick pool out) f law) (c .0),
+            after-rendering (renderedTick pool b) (accept l (Calls.tick pool out) .ledger) (l .mode) refl (accept-lawful l (Calls.tick pool out) f law) (c .0),
             ap (λ (x : List Float). record { answer = done; out = x }) (c .1),
           )
 
@@ -128,15 +140,15 @@ module _ (d : SequencerBackend) (D : Desk) (w : DeskLawful D) (r : DeskRelated d
       b = drained d .sequencer
 
       X : Bool → SequencerBackend × Reply
-      X t = gives (cond t (accepts (pastSent (withEngine (drained d) (renderedBlock pool n b)))) (refuses d N)) (cond t (renderedBlockOut pool n b out) out)
+      X t = gives (cond t (renders (renderedPlaces n b) (pastSent (withEngine (drained d) (renderedBlock pool n b)))) (refuses d N)) (cond t (renderedBlockOut pool n b out) out)
 
       carried : refusal (D .back) (Calls.block n pool out none) ≡ none → Keeps (X true) (acts (Plain.drained D) (block n pool out))
       carried h =
           let l = Plain.drained D .back in
           let f = drained-free D w (block n pool out) h in
           let c = block-carried b l law now n pool out f in (
-            rendered (renderedBlock pool n b) (accept l (Calls.block n pool out none) .ledger) (l .mode) refl (accept-lawful l (Calls.block n pool out none) f law) (c .0),
-            ap (λ (x : List Float). record { answer = done; out = x }) (c .1),
+            after-rendering (renderedBlock pool n b) (accept l (Calls.block n pool out none) .ledger) (l .mode) refl (accept-lawful l (Calls.block n pool out none) f law) (c .0),
+            ap₂ (λ (x : List Float) (p : Placings). record { answer = rendered p; out = x }) (c .1) (c .2),
           )
 
   pub keep-rate : (x : Float) → Keeps (gives (rates d x) []) (step D (back (rate x)))

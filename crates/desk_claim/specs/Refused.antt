@@ -15,14 +15,14 @@ use Rattle.floats.specs.Arithmetic.{_-ᵈ_}
 use Rattle.ledger.specs.Calls.{isRelative, endRelative}
 use Rattle.ledger.specs.Refusals.{statedEnd}
 use Rattle.refusals.specs.Refusals.{rateRefusal}
-use Rattle.sequencer.specs.Rendering.{renderedTick, renderedTickOut, renderedBlock, renderedBlockOut}
+use Rattle.sequencer.specs.Rendering.{renderedTick, renderedTickOut, renderedBlock, renderedPlaces, renderedBlockOut}
 use Rattle.sequencer.specs.Resets.{reRated}
 use Rattle.desk.specs.Desk as Desk
-use Rattle.desk.specs.Desk.{push, edit, reset, tick, block, rate, Call, front, back, number, queued, done, refused, Reply, lentOut}
+use Rattle.desk.specs.Desk.{push, edit, reset, tick, block, rate, Call, front, back, number, queued, done, rendered, refused, Reply, lentOut}
 use Rattle.realseq.specs.declared.SequencerBackend.{SequencerBackend}
 use Rattle.realseq.specs.declared.Outcome.{Outcome}
 use Rattle.realseq.specs.declared.queues.Message.the-variants.{Reset}
-use Rattle.realseq.specs.Answers.{said, answerOf, accepts, refuses}
+use Rattle.realseq.specs.Answers.{said, answerOf, accepts, renders, refuses}
 use Rattle.realseq.specs.Handling.{pastSent, drained}
 use Rattle.realseq.specs.Fronts.{queuedWith, numbered, pushRefused, pushMessage, sendsPush, pushes, editRefused, editMessage, sendsEdit, edits, resets}
 use Rattle.realseq.specs.Backs.{withEngine, tickNo, ticks, tickOuts, blockNo, blocks, blockOuts, rates}
@@ -36,6 +36,7 @@ abbrev refusedWith : Desk.Answer → Option ℕ
 refusedWith (number k) = none
 refusedWith queued = none
 refusedWith done = none
+refusedWith (rendered c) = none
 refusedWith (refused k) = some k
 
 never : {A : Type 0} (k : ℕ) → some k ≡ none → A
@@ -72,7 +73,7 @@ refused-unchanged d (back (tick pool out)) k h =
 refused-unchanged d (back (block m pool out)) k h =
     let n = blockNo d m (length out) in
     let b = drained d in
-    by-test d k n (eqb n 0) (accepts (pastSent (withEngine b (renderedBlock pool m (b .sequencer))))) (λ t. cond t (renderedBlockOut pool m (b .sequencer) out) out) refl h
+    by-test d k n (eqb n 0) (renders (renderedPlaces m (b .sequencer)) (pastSent (withEngine b (renderedBlock pool m (b .sequencer))))) (λ t. cond t (renderedBlockOut pool m (b .sequencer) out) out) refl h
 refused-unchanged d (back (rate r)) k h =
     by-test d k (rateRefusal r) (eqb (rateRefusal r) 0) (accepts (withEngine (drained d) (reRated (drained d .sequencer) r))) (λ b. []) refl h
 refused-unchanged d (back reset) k h = never k (ap refusedWith (sym h))

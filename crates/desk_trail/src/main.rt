@@ -29,6 +29,7 @@ fn refusal(answer: Answer) -> u64 {
         Answer::Number(_) => 0,
         Answer::Queued => 0,
         Answer::Done => 0,
+        Answer::Rendered(_) => 0,
     }
 }
 
@@ -111,6 +112,7 @@ fn created(answer: sequencer::Answer) -> Answer {
         sequencer::Answer::Past => Answer::Done,
         sequencer::Answer::Stored => Answer::Done,
         sequencer::Answer::Done => Answer::Done,
+        sequencer::Answer::Rendered(_) => Answer::Done,
     }
 }
 

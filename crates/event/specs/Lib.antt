@@ -5,3 +5,4 @@ pub mod Events
 pub mod StartsFirst
 pub mod Numbers
 pub mod Cases
+pub mod Placings

@@ -3,6 +3,7 @@ ghost use mathlib.Core.Path.{_≡_};
 ghost use Rattle.event.specs.Events.{newEvent, editedBy, rewound, earlier};
 ghost use Rattle.event.specs.Fades.{curve};
 ghost use Rattle.event.specs.Sources.{firstValue, atStart, sampleOf, advanced};
+ghost use Rattle.event.specs.Placings.{noPlacings, oneMore};
 use floats::Order;
 use math::sine_ease;
 use math::smooth5;
@@ -117,6 +118,52 @@ impl Unit {
                 if place < length {
                     self.place = place + 1;
                 }
+                self
+            }
+        }
+    }
+}
+
+// How a place of a block came: kept as rounded, forced, or set at an edge without the index step.
+pub enum Placing {
+    Kept,
+    Forced,
+    Edge,
+}
+
+// How many places came each way. Counts wrap at 2^64; a block has at most 1,024 places.
+pub struct Placings {
+    pub kept: u64,
+    pub forced: u64,
+    pub edge: u64,
+}
+
+impl Placings {
+    pub fn new() -> Placings
+        ensures { λ r. ⌜ r ≡ noPlacings ⌝ }
+    {
+        Placings {
+            kept: 0,
+            forced: 0,
+            edge: 0,
+        }
+    }
+
+    // One more place, which came so.
+    pub fn add(mut self, how: Placing) -> Placings
+        ensures { λ r. ⌜ r ≡ oneMore self how ⌝ }
+    {
+        match how {
+            Placing::Kept => {
+                self.kept = std::num::wrapping_add_u64(self.kept, 1);
+                self
+            }
+            Placing::Forced => {
+                self.forced = std::num::wrapping_add_u64(self.forced, 1);
+                self
+            }
+            Placing::Edge => {
+                self.edge = std::num::wrapping_add_u64(self.edge, 1);
                 self
             }
         }

@@ -1,8 +1,9 @@
 // Runs float vectors from standard input: a line each, of a letter and three patterns of 16 hexadecimal digits, and writes the result's pattern in 16 digits.
-// n: narrow. i: sample_index. t: total_cmp (0 Less, 1 Equal, 2 Greater). s: smooth5. p: sine_ease. d: delerp.
+// n: narrow. i: sample_index, and w: how it came (0 Free, 1 Raised, 2 Cut). t: total_cmp (0 Less, 1 Equal, 2 Greater). s: smooth5. p: sine_ease. d: delerp.
 ghost use mathlib.Core.Path.{_≡_};
 ghost use Prim.Native.Nat.{_<_};
 ghost use lib.ListN.{length};
+use floats::Clamp;
 use floats::Order;
 
 // The value of a hexadecimal digit, 0 of any other byte.
@@ -44,6 +45,14 @@ fn rank(order: Order) -> u64 {
     }
 }
 
+fn how(clamp: Clamp) -> u64 {
+    match clamp {
+        Clamp::Free => 0,
+        Clamp::Raised => 1,
+        Clamp::Cut => 2,
+    }
+}
+
 fn single(w: u64) -> f32 {
     float_bits::f32_from_bits((w % 0x1_0000_0000) as u32)
 }
@@ -55,7 +64,13 @@ fn result(kind: u8, a: u64, b: u64, c: u64) -> u64 {
         return float_bits::f32_to_bits(floats::narrow(x)) as u64;
     }
     if kind == b'i' {
-        return floats::sample_index(x);
+        let i = floats::sample_index(x);
+        return i.index;
+    }
+    if kind == b'w' {
+        let i = floats::sample_index(x);
+        let clamp = i.how;
+        return how(clamp);
     }
     if kind == b't' {
         return rank(floats::total_cmp(x, float_bits::f64_from_bits(b)));

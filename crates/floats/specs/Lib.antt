@@ -1,5 +1,6 @@
 pub mod Arithmetic
 pub mod Floats
+pub mod IndexStep
 pub mod Scaled
 pub mod Closest
 pub mod Values

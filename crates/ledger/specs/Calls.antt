@@ -5,6 +5,7 @@ use mathlib.Core.List.{List}
 use mathlib.Core.Option.{Option}
 use lib.Ieee.{Float}
 use Rattle.event.specs.declared.Fade.{Fade}
+use Rattle.event.specs.declared.Placings.{Placings}
 use Rattle.event.specs.declared.Source.{Source}
 
 -- a push states start and end; or both relative to the clock; or start and duration
@@ -33,10 +34,11 @@ pub data Call : Type 0 where
   rate : Float → Call
   reset : Call
 
--- the event's number; an edit's applied, past or stored; done; or document 01's number of the refusal
+-- the event's number; an edit's applied, past or stored; done; of a block, how its places came (document 02, Paper 12); or document 01's number of the refusal
 pub data Answer : Type 0 where
   number : ℕ → Answer
   applied past stored done : Answer
+  rendered : Placings → Answer
   refused : ℕ → Answer
 
 -- What a call gives back: its answer, and what was lent to be written. Of a lent scratch the first `filled` places count: the samples given (of a refused call all 64).

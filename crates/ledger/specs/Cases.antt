@@ -10,7 +10,7 @@ use Rattle.floats.specs.Arithmetic.{zeroᶠ, oneᶠ, whole}
 use Rattle.event.specs.declared.Fade.the-variants.{Smooth}
 use Rattle.event.specs.declared.ReplayMode.the-variants.{All}
 use Rattle.event.specs.declared.Source.the-variants.{Held}
-use Rattle.ledger.specs.Calls.{Call, push, tick, block, rate, absolute, Answer, Reply}
+use Rattle.ledger.specs.Calls.{Call, push, tick, block, rate, absolute, Answer, rendered, Reply}
 use Rattle.ledger.specs.Ledger.{Ledger, fresh}
 use Rattle.ledger.specs.Steps.{run}
 
@@ -42,6 +42,10 @@ blockOf n = block n [] (replicate 64 zeroᶠ) none
 abbrev pub answersOf : List Reply → List Answer
 answersOf [] = []
 answersOf (r ∷ l) = r .answer ∷ answersOf l
+
+-- an accepted block with so many places kept as rounded, forced, and set at an edge
+abbrev pub places : (kept forced edge : ℕ) → Answer
+places k f e = rendered (record { kept = k; forced = f; edge = e })
 
 abbrev pub lastOut : List Reply → List Float
 lastOut [] = []

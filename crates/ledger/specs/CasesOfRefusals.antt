@@ -15,7 +15,7 @@ use Rattle.event.specs.declared.Source.the-variants.{Held, Ramp, Clip}
 use Rattle.ledger.specs.Calls.{Call, PushKind, push, edit, tick, block, rate, absolute, relative, byDuration, absoluteEnd, relativeEnd, applied, past, stored, number, done, refused, Answer, Reply}
 use Rattle.ledger.specs.Ledger.{Ledger, fresh, create}
 use Rattle.ledger.specs.Steps.{run, withLists}
-use Rattle.ledger.specs.Cases.{held1, one-tick, blockOf, answersOf}
+use Rattle.ledger.specs.Cases.{held1, one-tick, blockOf, answersOf, places}
 use Rattle.ledger.specs.CasesOfLimits.{pushes, edits}
 use Rattle.ledger.specs.CasesOfSlips.{ledgerOf, repliesOf}
 
@@ -140,12 +140,12 @@ unfolding run fresh
 stereo cs = run cs (fresh 2 All 1) .replies
 
 pub refusal-10 : answersOf (stereo (tickInto 2 ∷ tickInto 1 ∷ tickInto 3 ∷ blockInto 1 128 none ∷ blockInto 1 127 none ∷ blockInto 1 64 none ∷ blockInto 1 129 none ∷ blockInto 1 128 (some (replicate 64 halfᶠ)) ∷ blockInto 1 128 (some (replicate 63 halfᶠ)) ∷ blockInto 1 128 (some (replicate 128 halfᶠ)) ∷ blockInto 1 128 (some []) ∷ blockInto 65 127 none ∷ blockInto 65 128 (some (replicate 128 halfᶠ)) ∷ []))
-    ≡ done ∷ refused 10 ∷ refused 10 ∷ done ∷ refused 10 ∷ refused 10 ∷ refused 10 ∷ done ∷ refused 10 ∷ refused 10 ∷ refused 10 ∷ refused 10 ∷ refused 10 ∷ []
+    ≡ done ∷ refused 10 ∷ refused 10 ∷ places 0 0 0 ∷ refused 10 ∷ refused 10 ∷ refused 10 ∷ places 0 0 0 ∷ refused 10 ∷ refused 10 ∷ refused 10 ∷ refused 10 ∷ refused 10 ∷ []
 unfolding stereo
 refusal-10 = refl
 
 -- ---- 11. "Block size exceeds 64."
-pub refusal-11 : answersTo (blockOf 64 ∷ blockOf 65 ∷ []) ≡ done ∷ refused 11 ∷ []
+pub refusal-11 : answersTo (blockOf 64 ∷ blockOf 65 ∷ []) ≡ places 0 0 0 ∷ refused 11 ∷ []
 unfolding answersTo
 refusal-11 = refl
 
@@ -160,7 +160,7 @@ pub refusal-12-tick : oneBefore (tickInto 2 ∷ one-tick ∷ one-tick ∷ tickIn
 unfolding oneBefore
 refusal-12-tick = refl
 
-pub refusal-12-block : oneBefore (blockOf 2 ∷ blockOf 65 ∷ blockInto 2 63 none ∷ blockOf 1 ∷ blockOf 0 ∷ blockOf 1 ∷ []) ≡ refused 12 ∷ refused 11 ∷ refused 10 ∷ done ∷ done ∷ refused 12 ∷ []
+pub refusal-12-block : oneBefore (blockOf 2 ∷ blockOf 65 ∷ blockInto 2 63 none ∷ blockOf 1 ∷ blockOf 0 ∷ blockOf 1 ∷ []) ≡ refused 12 ∷ refused 11 ∷ refused 10 ∷ places 0 0 0 ∷ places 0 0 0 ∷ refused 12 ∷ []
 unfolding oneBefore
 refusal-12-block = refl
 

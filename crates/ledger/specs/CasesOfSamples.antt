@@ -13,10 +13,10 @@ use Rattle.event.specs.declared.Fade.the-variants.{Smooth}
 use Rattle.event.specs.declared.ReplayMode.the-variants.{All}
 use Rattle.event.specs.declared.Source.{Source}
 use Rattle.event.specs.declared.Source.the-variants.{Held, Ramp, Clip}
-use Rattle.ledger.specs.Calls.{Call, push, tick, block, rate, absolute, done, Reply}
+use Rattle.ledger.specs.Calls.{Call, push, tick, block, rate, absolute, Reply}
 use Rattle.ledger.specs.Ledger.{Ledger, fresh}
 use Rattle.ledger.specs.Steps.{run}
-use Rattle.ledger.specs.Cases.{decimal, one-tick, blockOf, lastOut}
+use Rattle.ledger.specs.Cases.{decimal, one-tick, blockOf, lastOut, places}
 use Rattle.ledger.specs.CasesOfSlips.{valuesOf, ledgerOf, repliesOf, atRate10}
 
 abbrev quarter : Float
@@ -88,7 +88,7 @@ unfoldable pub blockReplies : (n : ℕ) → List Reply
 unfolding run fresh whole
 blockReplies n = run (clip-and-ramp ++ (block n pool (lent 128) (some (lent 64)) ∷ [])) (fresh 2 All 1) .replies
 
-pub block-outputs : lastReply (blockReplies 3) ≡ some (record { answer = done; out = row ++ row; scratch = some run-given; filled = 2 })
+pub block-outputs : lastReply (blockReplies 3) ≡ some (record { answer = places 1 0 3; out = row ++ row; scratch = some run-given; filled = 2 })
 unfolding blockReplies
 block-outputs = refl
 
@@ -108,7 +108,7 @@ sources-moved = (refl, refl, refl, refl)
 -- "If z > s": an event that ends where it starts gives nothing; its ramp stays and the scratch keeps the run before.
 pub nothing-given :
     let cs : List Call = level oneᶠ ∷ playing quarter quarter (Ramp oneᶠ oneᶠ) ∷ [] in
-    (take 4 (lastOut (repliesOf (cs ++ (blockOf 4 ∷ [])))) ≡ replicate 4 oneᶠ) × (valuesOf (ledgerOf (cs ++ (blockOf 4 ∷ [])) .sounding) ≡ oneᶠ ∷ oneᶠ ∷ []) × (lastReply (repliesOf (cs ++ (block 4 [] (lent 64) (some (lent 64)) ∷ []))) ≡ some (record { answer = done; out = replicate 4 oneᶠ ++ (replicate 4 zeroᶠ ++ lent 56); scratch = some (replicate 4 oneᶠ ++ lent 60); filled = 4 }))
+    (take 4 (lastOut (repliesOf (cs ++ (blockOf 4 ∷ [])))) ≡ replicate 4 oneᶠ) × (valuesOf (ledgerOf (cs ++ (blockOf 4 ∷ [])) .sounding) ≡ oneᶠ ∷ oneᶠ ∷ []) × (lastReply (repliesOf (cs ++ (block 4 [] (lent 64) (some (lent 64)) ∷ []))) ≡ some (record { answer = places 2 0 2; out = replicate 4 oneᶠ ++ (replicate 4 zeroᶠ ++ lent 56); scratch = some (replicate 4 oneᶠ ++ lent 60); filled = 4 }))
 unfolding repliesOf ledgerOf
 nothing-given = (refl, refl, refl)
 

@@ -102,7 +102,7 @@ module _ (pool : List Float) (b : Span) where
           added-before (firstPlace b e) run xs ys (omega (arith, end-within b e, length-faded-run pool b (firstPlace b e) (endPlace b e) e))
       go false q = refl
 
-  length-channel : (e : Event) (xs : List Float) → length (channelAfter pool b e xs) ≡ length xs
+  pub length-channel : (e : Event) (xs : List Float) → length (channelAfter pool b e xs) ≡ length xs
   unfolding channelAfter
   length-channel e xs = go (ltb (firstPlace b e) (endPlace b e))
     where
@@ -125,7 +125,7 @@ module _ (pool : List Float) (b : Span) where
   length-sum [] xs scratch = refl
   length-sum (e ∷ l) xs scratch = length-sum l (channelAfter pool b e xs) (scratchAfter pool b e scratch) ∙ length-channel e xs
 
-  events-once : (l : List Event) (xs scratch : List Float) → map (afterBlock b) l ≡ blockSum pool b l xs scratch .events
+  pub events-once : (l : List Event) (xs scratch : List Float) → map (afterBlock b) l ≡ blockSum pool b l xs scratch .events
   unfolding blockSum
   events-once [] xs scratch = refl
   events-once (e ∷ l) xs scratch = ap (λ (r : List Event). afterBlock b e ∷ r) (events-once l (channelAfter pool b e xs) (scratchAfter pool b e scratch))
@@ -167,9 +167,10 @@ pub same-as-former : (l : Ledger) (n : ℕ) (pool out scratch : List Float)
     (f .ledger ≡ o .ledger) × (f .out ≡ o .reply .out)
 unfolding formerBlock accept
 same-as-former l n pool out scratch =
-    let m = advance l (blockEnd l n) in
-    (ap (withSounding m) (events-once pool (spanOf l n) (m .sounding) (cleared n) []),
-    channels-alike pool (spanOf l n) n (m .sounding) [] (l .channels) out (omega (arith, length-replicate (8 * ((n + 7) / 8)) zeroᶠ)))
+    let m = advance l (blockEnd l n) in (
+      ap (withSounding m) (events-once pool (spanOf l n) (m .sounding) (cleared n) []),
+      channels-alike pool (spanOf l n) n (m .sounding) [] (l .channels) out (omega (arith, length-replicate (8 * ((n + 7) / 8)) zeroᶠ)),
+    )
 
 pub same-scratch : (l : Ledger) (n : ℕ) (pool out x y : List Float)
     → let m = advance l (blockEnd l n) in

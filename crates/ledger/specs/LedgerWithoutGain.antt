@@ -20,12 +20,12 @@ use Rattle.event.specs.Events.{numberOf, earlier, newEvent, rewound, withUnit}
 use Rattle.event.specs.Runs.{steps}
 use Rattle.event.specs.Sources.{firstValue, atStart, advanced, advancedBy}
 use Rattle.floats.specs.Arithmetic.{_+ᵈ_, _-ᵈ_, _×ᵈ_, _<ᶠ_, _≤ᶠ_, _≈ᶠ_, zeroᶠ, oneᶠ, halfᶠ}
-use Rattle.ledger.specs.Calls.{Call, push, edit, tick, block, rate, reset, done}
+use Rattle.ledger.specs.Calls.{Call, push, edit, tick, block, rate, reset, done, rendered}
 use Rattle.ledger.specs.Lists.{insert, insertAll, has, editOf, dropEdit, withEdit, editIn, start, lastOf, butLast, lastFirst, sweep}
 use Rattle.ledger.specs.Ledger.{Ledger, fresh}
 use Rattle.ledger.specs.Refusals.{refusal, statedEnd, editEnd, tickEnd, blockEnd}
 use Rattle.ledger.specs.Steps as Gained
-use Rattle.ledger.specs.Steps.{Outcome, Run, refusedReply, pushedTime, enter, change, stays, advance, withSounding, spanOf, cleared, everything, setRate, restart}
+use Rattle.ledger.specs.Steps.{Outcome, Run, refusedReply, pushedTime, enter, change, stays, advance, withSounding, spanOf, cleared, blockPlaces, everything, setRate, restart}
 use Rattle.ledger.specs.TickSamples as Tick
 use Rattle.ledger.specs.TickSamples.{TickSum}
 use Rattle.ledger.specs.BlockSamples as Block
@@ -45,7 +45,7 @@ abbrev blocked : Ledger → (n : ℕ) → (out : List Float) → (scratch : Opti
 blocked l n out scratch r = record {
   ledger = withSounding (advance l (blockEnd l n)) (r .events);
   reply = record {
-    answer = done;
+    answer = rendered (blockPlaces l n);
     out = overlay (l .channels) (r .channel) out;
     scratch = overlayScratch (r .scratch) scratch;
     filled = length (r .scratch);

@@ -1,6 +1,7 @@
 pub mod Lists
 pub mod TickSamples
 pub mod BlockSamples
+pub mod Places
 pub mod Calls
 pub mod Ledger
 pub mod Refusals
@@ -12,6 +13,7 @@ pub mod CasesOfLists
 pub mod CasesOfRefusals
 pub mod CasesOfSamples
 pub mod CasesOfFades
+pub mod CasesOfPlaces
 pub mod WithinBlock
 pub mod FadesByPlace
 pub mod CasesOfGains

@@ -3,7 +3,7 @@ use Prim.Native.Nat.{ℕ, zero, suc, _+_}
 use mathlib.Core.Bool.{Bool, false, _||_, cond}
 use mathlib.Core.List.{List, [], _∷_, _++_}
 use lib.Dec.{eqb}
-use Rattle.ledger.specs.Calls.{Answer, number, applied, past, stored, done, refused, Reply}
+use Rattle.ledger.specs.Calls.{Answer, number, applied, past, stored, done, rendered, refused, Reply}
 
 -- A push is accepted when its answer is an event number.
 abbrev pub acceptedOf : Answer → List ℕ
@@ -12,6 +12,7 @@ acceptedOf applied = []
 acceptedOf past = []
 acceptedOf stored = []
 acceptedOf done = []
+acceptedOf (rendered c) = []
 acceptedOf (refused k) = []
 
 -- the numbers of a list of replies, in order

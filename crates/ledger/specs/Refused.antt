@@ -9,7 +9,7 @@ use lib.Dec.{T}
 use lib.Ieee.{Float}
 use Rattle.event.specs.declared.Edit.{Edit}
 use Rattle.floats.specs.Arithmetic.{_<ᶠ_}
-use Rattle.ledger.specs.Calls.{Call, push, edit, tick, block, rate, reset, Answer, number, applied, past, stored, done, refused}
+use Rattle.ledger.specs.Calls.{Call, push, edit, tick, block, rate, reset, Answer, number, applied, past, stored, done, rendered, refused}
 use Rattle.ledger.specs.Lists.{has}
 use Rattle.ledger.specs.Ledger.{Ledger}
 use Rattle.ledger.specs.Refusals.{Check, refuses, firstOf, refusal, editEnd}
@@ -47,6 +47,7 @@ refusedWith applied = none
 refusedWith past = none
 refusedWith stored = none
 refusedWith done = none
+refusedWith (rendered c) = none
 refusedWith (refused k) = some k
 
 change-never-refuses : (l : Ledger) (k : ℕ) (d : Edit) (a b : Bool) → refusedWith (change l k d a b .reply .answer) ≡ none

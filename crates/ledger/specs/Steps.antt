@@ -8,16 +8,20 @@ use lib.Ieee.{Float, add, sub, mul, div, lt, eq}
 use Rattle.event.specs.declared.Event.{Event}
 use Rattle.event.specs.declared.Edit.{Edit}
 use Rattle.event.specs.declared.StoredEdit.{StoredEdit}
+use Rattle.event.specs.declared.Placings.{Placings}
 use Rattle.event.specs.declared.ReplayMode.{ReplayMode}
 use Rattle.event.specs.declared.ReplayMode.the-variants.{All, None}
 use Rattle.event.specs.Events.{newEvent, rewound}
+use Rattle.event.specs.Placings.{tally}
 use Rattle.floats.specs.Arithmetic.{_+ᵈ_, _-ᵈ_, _×ᵈ_, _÷ᵈ_, _<ᶠ_, _≈ᶠ_, zeroᶠ, oneᶠ, halfᶠ, -∞}
-use Rattle.ledger.specs.Calls.{Call, PushKind, absolute, relative, byDuration, push, edit, tick, block, rate, reset, Answer, number, applied, past, stored, done, refused, Reply}
+use Rattle.ledger.specs.Calls.{Call, PushKind, absolute, relative, byDuration, push, edit, tick, block, rate, reset, Answer, number, applied, past, stored, done, rendered, refused, Reply}
 use Rattle.ledger.specs.Lists.{insert, insertAll, numbers, has, storeEdit, editIn, start, sweep}
 use Rattle.ledger.specs.TickSamples as Tick
 use Rattle.ledger.specs.TickSamples.{tickSum}
 use Rattle.ledger.specs.BlockSamples as Block
 use Rattle.ledger.specs.BlockSamples.{Span, blockSum, overlay, overlayScratch}
+use Rattle.ledger.specs.Places as Places
+use Rattle.ledger.specs.Places.{placings}
 use Rattle.ledger.specs.Ledger.{Ledger}
 use Rattle.ledger.specs.Refusals.{statedEnd, editEnd, tickEnd, blockEnd, refusal}
 
@@ -110,6 +114,10 @@ spanOf l n = record { size = n; clock = l .clock; upto = blockEnd l n; rate = l 
 abbrev pub cleared : (n : ℕ) → List Float
 cleared n = replicate (8 * ((n + 7) / 8)) zeroᶠ
 
+-- how the places of every event that sounds in the block came
+abbrev pub blockPlaces : Ledger → (n : ℕ) → Placings
+blockPlaces l n = tally (placings (spanOf l n) (advance l (blockEnd l n) .sounding))
+
 -- ---- Rate: if different, r and d change, everything goes to W, θ = -infinity; t, E and source places remain.
 
 abbrev pub everything : Ledger → List Event
@@ -143,7 +151,7 @@ restart l None = withLists l [] [] [] [] zeroᶠ -∞ (l .gone ++ (numbers (l .f
 -- ---- a call that no refusal names
 
 unfoldable pub accept : Ledger → Call → Outcome
-unfolding statedEnd pushedTime editEnd tickEnd blockEnd enter change advance Tick.computes Block.computes setRate restart eq
+unfolding statedEnd pushedTime editEnd tickEnd blockEnd enter change advance Tick.computes Block.computes Places.computes setRate restart eq
 accept l (push kind start end fade-in fade-out curve source gain) =
     let t = l .clock in
     record {
@@ -166,7 +174,7 @@ accept l (block n pool out scratch) =
     record {
       ledger = withSounding m (r .events);
       reply = record {
-        answer = done;
+        answer = rendered (blockPlaces l n);
         out = overlay (l .channels) (r .channel) out;
         scratch = overlayScratch (r .scratch) scratch;
         filled = length (r .scratch);

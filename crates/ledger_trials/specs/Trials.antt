@@ -15,7 +15,8 @@ use Rattle.event.specs.declared.Source.{Source}
 use Rattle.event.specs.declared.Source.the-variants.{Held, Ramp, Clip}
 use Rattle.event.specs.Events.{numberOf}
 use Rattle.event.specs.Numbers.{curveNumber, sourceNumber, firstWord, secondWord}
-use Rattle.ledger.specs.Calls.{Call, Answer, number, applied, past, stored, done, refused, Reply}
+use Rattle.event.specs.Placings.{noPlacings}
+use Rattle.ledger.specs.Calls.{Call, Answer, number, applied, past, stored, done, rendered, refused, Reply}
 use Rattle.ledger.specs.Lists.{editOf}
 use Rattle.ledger.specs.Ledger.{Ledger, create}
 use Rattle.ledger.specs.Steps.{run}
@@ -56,9 +57,9 @@ says a = record { answer = a; channels = 0; stride = 1; samples = []; scratch = 
 abbrev pub ticks : (channels sample : ℕ) → Want
 ticks channels sample = record { answer = done; channels = channels; stride = 1; samples = sample ∷ []; scratch = [] }
 
--- an accepted block
+-- an accepted block; how its places came is not compared here, since the Rust has no such answer
 abbrev pub blocks : (channels : ℕ) → (samples scratch : List ℕ) → Want
-blocks channels samples scratch = record { answer = done; channels = channels; stride = 64; samples = samples; scratch = scratch }
+blocks channels samples scratch = record { answer = rendered noPlacings; channels = channels; stride = 64; samples = samples; scratch = scratch }
 
 -- a creation, each call with what it must give back, and what is held at the end
 pub record Trial : Type 0 where
@@ -83,6 +84,7 @@ tag past = 2
 tag stored = 3
 tag done = 4
 tag (refused k) = 5
+tag (rendered c) = 6
 
 abbrev argument : Answer → ℕ
 argument (number k) = k
@@ -91,6 +93,7 @@ argument past = 0
 argument stored = 0
 argument done = 0
 argument (refused k) = k
+argument (rendered c) = 0
 
 abbrev sameAnswer : Answer → Answer → Bool
 sameAnswer a b = eqb (tag a) (tag b) && eqb (argument a) (argument b)

@@ -26,6 +26,11 @@ fn mixed(digest: u64, value: u64) -> u64 {
     std::num::wrapping_add_u64((digest << 7) ^ (digest >> 57), value)
 }
 
+fn index(x: f64) -> u64 {
+    let i = floats::sample_index(x);
+    i.index
+}
+
 // One of 64 starts, so that many are equal: -0.0, 0.0, and quarters up to 15.75.
 fn start_of(code: u64) -> f64 {
     if code == 0 {
@@ -58,8 +63,8 @@ fn seen(digest: u64, event: Event) -> u64 {
     let id = event.id;
     let unit = event.unit;
     let digest = mixed(digest, id.0);
-    let digest = mixed(digest, floats::sample_index(event.start_time * 4.0));
-    let digest = mixed(digest, floats::sample_index(event.end_time * 4.0));
+    let digest = mixed(digest, index(event.start_time * 4.0));
+    let digest = mixed(digest, index(event.end_time * 4.0));
     mixed(digest, unit.place as u64)
 }
 
@@ -228,7 +233,7 @@ fn all_edits(start: u64, edits: EditMap) -> u64 {
         let id = stored.id;
         let edit = stored.edit;
         digest = mixed(digest, id.0);
-        digest = mixed(digest, floats::sample_index(edit.end_time));
+        digest = mixed(digest, index(edit.end_time));
         i = i + 1;
     }
     digest
@@ -236,7 +241,7 @@ fn all_edits(start: u64, edits: EditMap) -> u64 {
 
 fn looked_up(digest: u64, found: FoundEdit) -> u64 {
     match found {
-        FoundEdit::Stored(edit) => mixed(mixed(digest, 1), floats::sample_index(edit.end_time)),
+        FoundEdit::Stored(edit) => mixed(mixed(digest, 1), index(edit.end_time)),
         FoundEdit::Missing => mixed(digest, 0),
     }
 }

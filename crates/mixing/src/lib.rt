@@ -2,13 +2,17 @@
 ghost use mathlib.Core.Path.{_≡_};
 ghost use Prim.Native.Nat.{_-_};
 ghost use lib.ListN.{length};
-ghost use Rattle.event.specs.Events.{withUnit};
-ghost use Rattle.event.specs.Sources.{advancedBy};
+ghost use Rattle.event.specs.Placings.{addAll};
 ghost use Rattle.ledger.specs.TickSamples.{fadedIn, fadedOut, tickSample, afterTick};
-ghost use Rattle.ledger.specs.BlockSamples.{firstPlace, endPlace, fadeInPlace, fadeOutPlace, phaseAt, phaseStep, runFadedIn, runFadedOut, fadedRun, addAt, channelAfter, afterBlock};
+ghost use Rattle.ledger.specs.BlockSamples.{phaseAt, phaseStep, runFadedIn, runFadedOut, fadedRun, addAt, channelAfter};
+ghost use Rattle.ledger.specs.Places.{fadeInPlacings, fadeOutPlacings};
 ghost use Rattle.mixing.specs.Blocks.{asSpan, clearedPlaces};
+ghost use Rattle.mixing.specs.Placed.{placingOf, roundedPlace, raisedPlace, firstOf, endOf, fadeInOf, fadeOutOf, runProcessed, processed};
 use event::Event;
-use runs::greatest;
+use event::Placing;
+use event::Placings;
+use floats::Clamp;
+use floats::SampleIndex;
 use runs::least;
 use runs::minus;
 
@@ -92,52 +96,110 @@ pub fn cleared_places(size: usize) -> usize
     8 * ((n + 7) / 8)
 }
 
+// A place in the block, and how it came.
+struct Place {
+    at: usize,
+    how: Placing,
+}
+
+// How a rounded place came that is cut to `most`.
+fn placing(most: usize, step: SampleIndex) -> Placing
+    ensures { λ r. ⌜ r ≡ placingOf most step ⌝ }
+{
+    let how = step.how;
+    match how {
+        Clamp::Free => {
+            if step.index as usize <= most {
+                return Placing::Kept;
+            }
+            Placing::Forced
+        }
+        Clamp::Raised => Placing::Forced,
+        Clamp::Cut => Placing::Forced,
+    }
+}
+
+// The place nearest to x, at most `most`.
+fn rounded(most: usize, x: f64) -> Place
+    ensures { λ r. ⌜ r ≡ roundedPlace most x ⌝ }
+{
+    let step = floats::sample_index(x);
+    let how = placing(most, step);
+    Place {
+        at: least(most, step.index as usize),
+        how: how,
+    }
+}
+
+// The place, or s if that is later.
+fn raised(place: Place, s: usize) -> Place
+    ensures { λ r. ⌜ r ≡ raisedPlace s place ⌝ }
+{
+    if place.at < s {
+        return Place {
+            at: s,
+            how: Placing::Forced,
+        };
+    }
+    place
+}
+
 // s: the place in the block at which the event begins.
-fn first_place(event: Event, span: Span) -> usize
-    ensures { λ r. ⌜ r ≡ firstPlace (asSpan span) event ⌝ }
+fn first_place(event: Event, span: Span) -> Place
+    ensures { λ r. ⌜ r ≡ firstOf (asSpan span) event ⌝ }
 {
     if event.start_time <= span.clock {
-        return 0;
+        return Place {
+            at: 0,
+            how: Placing::Edge,
+        };
     }
-    let n = least(64, span.size);
-    let i = floats::sample_index((event.start_time - span.clock) * span.rate);
-    least(n, i as usize)
+    rounded(
+        least(64, span.size),
+        (event.start_time - span.clock) * span.rate,
+    )
 }
 
 // z: the place in the block before which the event ends.
-fn end_place(event: Event, span: Span) -> usize
-    ensures { λ r. ⌜ r ≡ endPlace (asSpan span) event ⌝ }
+fn end_place(event: Event, span: Span) -> Place
+    ensures { λ r. ⌜ r ≡ endOf (asSpan span) event ⌝ }
 {
     let n = least(64, span.size);
     if event.end_time >= span.upto {
-        return n;
+        return Place {
+            at: n,
+            how: Placing::Edge,
+        };
     }
-    let i = floats::sample_index((event.end_time - span.clock) * span.rate);
-    least(n, i as usize)
+    rounded(n, (event.end_time - span.clock) * span.rate)
 }
 
 // The place before which the fade-in ends, counted from the block's edge.
-fn fade_in_place(event: Event, span: Span, z: usize) -> usize
-    ensures { λ r. ⌜ r ≡ fadeInPlace (asSpan span) z event ⌝ }
+fn fade_in_place(event: Event, span: Span, z: usize) -> Place
+    ensures { λ r. ⌜ r ≡ fadeInOf (asSpan span) z event ⌝ }
 {
     let top = event.start_time + event.fade_in;
     if top >= span.upto {
-        return z;
+        return Place {
+            at: z,
+            how: Placing::Edge,
+        };
     }
-    let i = floats::sample_index((top - span.clock) / span.duration);
-    least(64, i as usize)
+    rounded(64, (top - span.clock) / span.duration)
 }
 
-// The place at which the fade-out starts, counted from the block's edge.
-fn fade_out_place(event: Event, span: Span) -> usize
-    ensures { λ r. ⌜ r ≡ fadeOutPlace (asSpan span) event ⌝ }
+// The place at which the fade-out starts, counted from the block's edge, or s if that is later.
+fn fade_out_place(event: Event, span: Span, s: usize) -> Place
+    ensures { λ r. ⌜ r ≡ fadeOutOf (asSpan span) s event ⌝ }
 {
     let bottom = event.end_time - event.fade_out;
     if bottom <= span.clock {
-        return 0;
+        return Place {
+            at: s,
+            how: Placing::Edge,
+        };
     }
-    let i = floats::sample_index((bottom - span.clock) / span.duration);
-    least(64, i as usize)
+    raised(rounded(64, (bottom - span.clock) / span.duration), s)
 }
 
 // The phase of block place i in a fade from `bottom` to `top`.
@@ -157,41 +219,70 @@ fn phase_step(span: Span, fade: f64) -> f32
 
 // The Rust's `fade_in`: `span` has its sample_duration, time and end_time, and `event` its ease, fade_duration and
 // fade_start_time. `output` is the event's run, which starts at block place `start_index`. A fade belongs to the clip
-// (document 02, Paper 3): it covers the run's places below its end place minus `start_index`.
-pub fn fade_in(span: Span, start_index: usize, end_index: usize, event: Event, output: &mut [f32])
-    ensures { λ _. ⌜ now (output .exit) ≡ runFadedIn (asSpan span) «start_index» «end_index» event (now (output .entry)) ⌝ }
+// (document 02, Paper 3): it covers the run's places below its end place minus `start_index`. Where the place is computed
+// it is one more of `places`.
+pub fn fade_in(
+    span: Span,
+    start_index: usize,
+    end_index: usize,
+    event: Event,
+    output: &mut [f32],
+    places: Placings,
+) -> Placings
+    ensures { λ r. ⌜ (r ≡ addAll places (fadeInPlacings (asSpan span) event)) × (now (output .exit) ≡ runFadedIn (asSpan span) «start_index» «end_index» event (now (output .entry))) ⌝ }
 {
     let top = event.start_time + event.fade_in;
     if event.fade_in > 0.0 {
         if top > span.clock {
             let place = fade_in_place(event, span, end_index);
-            let to = minus(place, start_index);
+            let how = place.how;
+            let to = minus(place.at, start_index);
             let phase = phase_at(span, start_index, event.start_time, top);
             let step = phase_step(span, event.fade_in);
             let ease = event.fade_ease;
             runs::fade(output, 0, to, ease, true, phase, step);
+            return places.add(how);
         }
+        return places;
     }
+    places
 }
 
 // The Rust's `fade_out`, with the same arguments; `event` has its fade_end_time. It begins at its place in the block, or
 // where the run does if that is later, with the phase of that place.
-pub fn fade_out(span: Span, start_index: usize, end_index: usize, event: Event, output: &mut [f32])
-    ensures { λ _. ⌜ now (output .exit) ≡ runFadedOut (asSpan span) «start_index» «end_index» event (now (output .entry)) ⌝ }
+pub fn fade_out(
+    span: Span,
+    start_index: usize,
+    end_index: usize,
+    event: Event,
+    output: &mut [f32],
+    places: Placings,
+) -> Placings
+    ensures { λ r. ⌜ (r ≡ addAll places (fadeOutPlacings (asSpan span) «start_index» event)) × (now (output .exit) ≡ runFadedOut (asSpan span) «start_index» «end_index» event (now (output .entry))) ⌝ }
 {
     let bottom = event.end_time - event.fade_out;
     if event.fade_out > 0.0 {
         if bottom < span.upto {
-            let place = fade_out_place(event, span);
-            let i = greatest(place, start_index);
+            let place = fade_out_place(event, span, start_index);
+            let how = place.how;
+            let i = place.at;
             let phase = phase_at(span, i, bottom, event.end_time);
             let step = phase_step(span, event.fade_out);
             let from = minus(i, start_index);
             let to = minus(end_index, start_index);
             let ease = event.fade_ease;
             runs::fade(output, from, to, ease, false, phase, step);
+            return places.add(how);
         }
+        return places;
     }
+    places
+}
+
+// An event after a block, and the places counted so far.
+pub struct Processed {
+    pub event: Event,
+    pub places: Placings,
 }
 
 // The event's z - s samples, as many as the row has, at its gain and with both fades, are added to a channel from place s on.
@@ -203,32 +294,51 @@ fn add_run(
     pool: &[f32],
     row: &mut [f32],
     channel: &mut [f32],
-) -> Event
+    places: Placings,
+) -> Processed
     requires { ⌜ length (now row) ≡ z - s ⌝ }
-    ensures { λ r. ⌜ (r ≡ withUnit (advancedBy (event .unit) (z - s)) event) × (now (channel .exit) ≡ addAt s (fadedRun (now (pool .entry)) (asSpan span) s z event) (now (channel .entry))) ⌝ }
+    ensures { λ r. ⌜ (r ≡ runProcessed (asSpan span) s z event places) × (now (channel .exit) ≡ addAt s (fadedRun (now (pool .entry)) (asSpan span) s z event) (now (channel .entry))) ⌝ }
 {
     let unit = event.unit;
     let unit = runs::fill_run(row, unit, pool);
     let gain = event.gain;
     runs::apply_gain(row, gain);
-    fade_in(span, s, z, event, row);
-    fade_out(span, s, z, event, row);
+    let places = fade_in(span, s, z, event, row, places);
+    let places = fade_out(span, s, z, event, row, places);
     runs::add_at(channel, row, s);
     let mut after = event;
     after.unit = unit;
-    after
+    Processed {
+        event: after,
+        places: places,
+    }
 }
 
-// One event of a block: its run is added to a channel, and it comes back with its source moved on.
-pub fn process_event(event: Event, span: Span, pool: &[f32], channel: &mut [f32]) -> Event
-    ensures { λ r. ⌜ (r ≡ afterBlock (asSpan span) event) × (now (channel .exit) ≡ channelAfter (now (pool .entry)) (asSpan span) event (now (channel .entry))) ⌝ }
+// One event of a block: its run is added to a channel, it comes back with its source moved on, and its places are counted.
+pub fn process_event(
+    event: Event,
+    span: Span,
+    pool: &[f32],
+    channel: &mut [f32],
+    places: Placings,
+) -> Processed
+    ensures { λ r. ⌜ (r ≡ processed (asSpan span) event places) × (now (channel .exit) ≡ channelAfter (now (pool .entry)) (asSpan span) event (now (channel .entry))) ⌝ }
 {
-    let s = first_place(event, span);
-    let z = end_place(event, span);
+    let first = first_place(event, span);
+    let end = end_place(event, span);
+    let s = first.at;
+    let z = end.at;
+    let how = first.how;
+    let places = places.add(how);
+    let how = end.how;
+    let places = places.add(how);
     if s < z {
         let m = z - s;
         let mut row = [0.0f32; 64];
-        return add_run(event, span, s, z, pool, &mut row[0..m], channel);
+        return add_run(event, span, s, z, pool, &mut row[0..m], channel, places);
     }
-    event
+    Processed {
+        event: event,
+        places: places,
+    }
 }

@@ -7,12 +7,12 @@ use lib.Ieee.{Float}
 use lib.ListN.{length}
 use Rattle.refusals.specs.Refusals.{tickRefusal, processRefusal, rateRefusal}
 use Rattle.sequencer.specs.declared.Sequencer.{Sequencer}
-use Rattle.sequencer.specs.Rendering.{renderedTick, renderedTickOut, renderedBlock, renderedBlockOut}
+use Rattle.sequencer.specs.Rendering.{renderedTick, renderedTickOut, renderedBlock, renderedPlaces, renderedBlockOut}
 use Rattle.sequencer.specs.Resets.{reRated}
 use Rattle.realseq.specs.declared.SequencerBackend.{SequencerBackend}
 use Rattle.realseq.specs.declared.Outcome.{Outcome}
 use Rattle.realseq.specs.Handling.{pastSentBy, pastSent, drained}
-use Rattle.realseq.specs.Answers.{accepts, refuses}
+use Rattle.realseq.specs.Answers.{accepts, renders, refuses}
 
 abbrev pub withEngine : SequencerBackend → Sequencer → SequencerBackend
 withEngine d s = record { sequencer = s; messages = d .messages; returned = d .returned }
@@ -34,10 +34,10 @@ abbrev pub blockNo : SequencerBackend → (n len : ℕ) → ℕ
 blockNo d n len = processRefusal n len (d .sequencer .outputs) (d .sequencer .time) (d .sequencer .«sample_duration»)
 
 unfoldable pub blocks : (pool : List Float) → (n len : ℕ) → SequencerBackend → Outcome
-unfolding processRefusal drained renderedBlock pastSentBy
+unfolding processRefusal drained renderedBlock renderedPlaces pastSentBy
 blocks pool n len d =
     let b = drained d in
-    cond (eqb (blockNo d n len) 0) (accepts (pastSent (withEngine b (renderedBlock pool n (b .sequencer))))) (refuses d (blockNo d n len))
+    cond (eqb (blockNo d n len) 0) (renders (renderedPlaces n (b .sequencer)) (pastSent (withEngine b (renderedBlock pool n (b .sequencer))))) (refuses d (blockNo d n len))
 
 unfoldable pub blockOuts : (pool : List Float) → (n : ℕ) → SequencerBackend → (out : List Float) → List Float
 unfolding processRefusal drained renderedBlockOut

@@ -45,12 +45,14 @@ impl SequencerBackend {
         }
         let mut d = self.drain();
         let s = d.sequencer;
-        let s = s.render_block(size, pool, out);
+        let r = s.render_block(size, pool, out);
+        let s = r.sequencer;
+        let places = r.places;
         d.sequencer = s;
         d = d.send_back_past();
         Outcome {
             backend: d,
-            answer: Answer::Done,
+            answer: Answer::Rendered(places),
         }
     }
 

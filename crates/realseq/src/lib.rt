@@ -8,6 +8,7 @@ mod queues;
 ghost use mathlib.Core.Path.{_≡_};
 ghost use Rattle.realseq.specs.Queues.{opened};
 use event::EventId;
+use event::Placings;
 use event::ReplayMode;
 pub use queues::Message;
 pub use queues::Messages;
@@ -22,11 +23,12 @@ pub struct SequencerBackend {
     pub returned: Returned,
 }
 
-// What a call answers: the number of a queued push; that an edit or a reset is queued; done; or the number of a refusal.
+// What a call answers: the number of a queued push; that an edit or a reset is queued; done; of a block, how its places came; or the number of a refusal.
 pub enum Answer {
     Number(EventId),
     Queued,
     Done,
+    Rendered(Placings),
     Refused(u64),
 }
 

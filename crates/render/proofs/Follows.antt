@@ -20,7 +20,7 @@ use Rattle.ledger.specs.Lawful.{Lawful, create-lawful, step-lawful}
 use Rattle.sequencer.specs.declared.Sequencer.{Sequencer}
 use Rattle.sequencer.specs.declared.Outcome.{Outcome}
 use Rattle.sequencer.specs.declared.Answer.{Answer}
-use Rattle.sequencer.specs.declared.Answer.the-variants.{Number, Applied as applied, Past, Stored, Done, Refused}
+use Rattle.sequencer.specs.declared.Answer.the-variants.{Number, Applied as applied, Past, Stored, Done, Rendered, Refused}
 use Rattle.sequencer.specs.Answers.{answerOf, accepts}
 use Rattle.sequencer.specs.Creation.{created}
 use Rattle.sequencer.specs.Pushes.{pushes}
@@ -88,6 +88,7 @@ same-refusal applied = refl
 same-refusal Past = refl
 same-refusal Stored = refl
 same-refusal Done = refl
+same-refusal (Rendered c) = refl
 same-refusal (Refused n) = refl
 
 kept : (s : Sequencer) (l : Ledger) (c : Calls.Call) → Follows s l → {t : Sequencer} → Related t (step l c .ledger) → Follows t (step l c .ledger)

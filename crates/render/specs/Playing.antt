@@ -7,7 +7,7 @@ use lib.Dec.{eqb}
 use lib.Ieee.{Float}
 use lib.ListN.{take, drop, replicate}
 use Rattle.floats.specs.Arithmetic.{zeroᶠ}
-use Rattle.ledger.specs.Calls.{PushKind, absolute, relative, byDuration, EditKind, absoluteEnd, relativeEnd, push, edit, tick, block, rate, reset, Answer, number, applied, past, stored, done, refused}
+use Rattle.ledger.specs.Calls.{PushKind, absolute, relative, byDuration, EditKind, absoluteEnd, relativeEnd, push, edit, tick, block, rate, reset, Answer, number, applied, past, stored, done, rendered, refused}
 use Rattle.ledger.specs.Calls as Calls
 use Rattle.ledger.specs.Ledger.{Ledger, create}
 use Rattle.ledger.specs.Steps.{Outcome, step}
@@ -30,6 +30,7 @@ refusalOf applied = 0
 refusalOf past = 0
 refusalOf stored = 0
 refusalOf done = 0
+refusalOf (rendered c) = 0
 
 -- a record without samples
 abbrev pub silent : Outcome → Played

@@ -1,7 +1,7 @@
 // Loops over samples: what a source gives, gains, fades, and adding. The fades and the adding are those of `fade_in`, `fade_out` and
 // `process` of src/sequencer.rs of fundsp. A slice may have any length; places that it lacks are left out.
 ghost use mathlib.Core.Path.{_≡_};
-ghost use Prim.Native.Nat.{_+_, _-_, _/_, _≤_, min, max};
+ghost use Prim.Native.Nat.{_+_, _-_, _/_, _≤_, min};
 ghost use mathlib.Core.List.{map, _++_};
 ghost use lib.ListN as List;
 ghost use lib.ListN.{length, take, drop, replicate};
@@ -20,12 +20,6 @@ pub fn least(a: usize, b: usize) -> usize
     ensures { λ r. ⌜ r ≡ min a b ⌝ }
 {
     if a < b { a } else { b }
-}
-
-pub fn greatest(a: usize, b: usize) -> usize
-    ensures { λ r. ⌜ r ≡ max a b ⌝ }
-{
-    if a < b { b } else { a }
 }
 
 // a - b, and 0 where b is greater.

@@ -1,12 +1,13 @@
 -- Document 01's numbers and values for the cases of `Answer`. Every definition of an outcome names its answer by `said`, and the claim reads it back by `answerOf`.
 use Prim.Native.Nat.{ℕ}
 use mathlib.Core.Path.{_≡_, refl}
+use Rattle.event.specs.declared.Placings.{Placings}
 use Rattle.ledger.specs.Calls as Calls
-use Rattle.ledger.specs.Calls.{number, applied, past, stored, done, refused}
+use Rattle.ledger.specs.Calls.{number, applied, past, stored, done, rendered, refused}
 use Rattle.sequencer.specs.declared.Sequencer.{Sequencer}
 use Rattle.sequencer.specs.declared.Outcome.{Outcome}
 use Rattle.sequencer.specs.declared.Answer.{Answer}
-use Rattle.sequencer.specs.declared.Answer.the-variants.{Number, Applied, Past, Stored, Done, Refused}
+use Rattle.sequencer.specs.declared.Answer.the-variants.{Number, Applied, Past, Stored, Done, Rendered, Refused}
 
 abbrev pub said : Calls.Answer → Answer
 said (number k) = Number (record { 0 = k })
@@ -14,6 +15,7 @@ said applied = Applied
 said past = Past
 said stored = Stored
 said done = Done
+said (rendered c) = Rendered c
 said (refused k) = Refused k
 
 abbrev pub answerOf : Answer → Calls.Answer
@@ -22,6 +24,7 @@ answerOf Applied = applied
 answerOf Past = past
 answerOf Stored = stored
 answerOf Done = done
+answerOf (Rendered c) = rendered c
 answerOf (Refused k) = refused k
 
 pub read-back : (a : Calls.Answer) → answerOf (said a) ≡ a
@@ -30,10 +33,14 @@ read-back applied = refl
 read-back past = refl
 read-back stored = refl
 read-back done = refl
+read-back (rendered c) = refl
 read-back (refused k) = refl
 
 abbrev pub accepts : Sequencer → Outcome
 accepts s = record { sequencer = s; answer = said done }
+
+abbrev pub renders : Sequencer → Placings → Outcome
+renders s c = record { sequencer = s; answer = said (rendered c) }
 
 abbrev pub refuses : Sequencer → (number : ℕ) → Outcome
 refuses s k = record { sequencer = s; answer = said (refused k) }

@@ -8,18 +8,22 @@ use lib.ListN.{getD, set, length, replicate, take}
 use Rattle.event.specs.declared.Event.{Event}
 use Rattle.event.specs.declared.ReplayMode.{ReplayMode}
 use Rattle.event.specs.declared.ReplayMode.the-variants.{All, None}
+use Rattle.event.specs.declared.Placings.{Placings}
 use Rattle.event.specs.Events.{blank}
+use Rattle.event.specs.Placings.{noPlacings, addAll}
 use Rattle.floats.specs.Arithmetic.{_+ᵈ_, _×ᵈ_, _+ˢ_, _<ᶠ_, zeroᶠ, whole}
 use Rattle.ledger.specs.TickSamples.{tickSample, afterTick}
 use Rattle.ledger.specs.BlockSamples as Block
 use Rattle.ledger.specs.BlockSamples.{channelAfter, afterBlock, overlay}
+use Rattle.ledger.specs.Places.{eventPlacings}
 use Rattle.mixing.specs.Blocks.{clearedPlaces}
 use Rattle.sequencer.specs.declared.Sequencer.{Sequencer}
 use Rattle.sequencer.specs.declared.Outcome.{Outcome}
+use Rattle.sequencer.specs.declared.Rendered.{Rendered}
 use Rattle.sequencer.specs.Parts.{withSounding}
 use Rattle.sequencer.specs.Moves.{advanced}
 use Rattle.refusals.specs.Refusals.{tickRefusal, processRefusal}
-use Rattle.sequencer.specs.Answers.{accepts, refuses}
+use Rattle.sequencer.specs.Answers.{accepts, renders, refuses}
 
 -- ---- whether a list changes at the beginning
 
@@ -91,21 +95,36 @@ unfoldable pub blockPass : (pool : List Float) → Block.Span → (n : ℕ) → 
 unfolding passes
 blockPass pool b n a = passes (afterBlock b) (addBlock pool b) blank (min (a .«active_len») 256) (a .active) 0 (replicate (clearedPlaces n) zeroᶠ)
 
+-- how the places of every active event came
+abbrev pub addPlaces : Block.Span → Placings → Event → Placings
+addPlaces b c e = addAll c (eventPlacings b e)
+
+unfoldable pub placesPass : Block.Span → Sequencer → Passed Event Placings
+unfolding passes
+placesPass b a = passes (afterBlock b) (addPlaces b) blank (min (a .«active_len») 256) (a .active) 0 noPlacings
+
+unfoldable pub renderedPlaces : (n : ℕ) → Sequencer → Placings
+unfolding placesPass advanced
+renderedPlaces n s = placesPass (spanOf s n) (advanced s (blockEnd s n)) .sum
+
 unfoldable pub renderedBlock : (pool : List Float) → (n : ℕ) → Sequencer → Sequencer
 unfolding blockPass advanced
 renderedBlock pool n s =
     let a = advanced s (blockEnd s n) in
     withSounding a (blockPass pool (spanOf s n) n a .items)
 
+abbrev pub renderedWith : (pool : List Float) → (n : ℕ) → Sequencer → Rendered
+renderedWith pool n s = record { sequencer = renderedBlock pool n s; places = renderedPlaces n s }
+
 unfoldable pub renderedBlockOut : (pool : List Float) → (n : ℕ) → Sequencer → (out : List Float) → List Float
 unfolding blockPass advanced
 renderedBlockOut pool n s out = overlay (length out / 64) (take 64 (blockPass pool (spanOf s n) n (advanced s (blockEnd s n)) .sum)) out
 
 unfoldable pub blocks : (pool : List Float) → (n len : ℕ) → Sequencer → Outcome
-unfolding processRefusal renderedBlock
+unfolding processRefusal renderedBlock renderedPlaces
 blocks pool n len s =
     let no = processRefusal n len (s .outputs) (s .time) (s .«sample_duration») in
-    cond (eqb no 0) (accepts (renderedBlock pool n s)) (refuses s no)
+    cond (eqb no 0) (renders (renderedBlock pool n s) (renderedPlaces n s)) (refuses s no)
 
 unfoldable pub blockOuts : (pool : List Float) → (n : ℕ) → Sequencer → (out : List Float) → List Float
 unfolding processRefusal renderedBlockOut

@@ -13,6 +13,7 @@ mod resets;
 
 use event::Event;
 use event::EventId;
+use event::Placings;
 use event::ReplayMode;
 use lists::EditMap;
 pub use readers::Counts;
@@ -39,17 +40,24 @@ pub struct Sequencer {
     pub let_go: u64,
 }
 
-// What a call answers: the number of a pushed event; what became of an edit; done; or the number of a refusal.
+// What a call answers: the number of a pushed event; what became of an edit; done; of a block, how its places came; or the number of a refusal.
 pub enum Answer {
     Number(EventId),
     Applied,
     Past,
     Stored,
     Done,
+    Rendered(Placings),
     Refused(u64),
 }
 
 pub struct Outcome {
     pub sequencer: Sequencer,
     pub answer: Answer,
+}
+
+// An engine after a block, and how the block's places came.
+pub struct Rendered {
+    pub sequencer: Sequencer,
+    pub places: Placings,
 }

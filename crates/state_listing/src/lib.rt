@@ -2,6 +2,7 @@
 // The comparison with the Rust holds these lines against those of the original's own fields (oracle/src/digest.rs). The waiting events and the stored edits are listed as sets.
 mod digest;
 
+use event::Placings;
 use realseq::SequencerBackend;
 use sequencer::Answer;
 use sequencer::Sequencer;
@@ -27,6 +28,13 @@ fn head(kind: u8) {
     io::print_hex(1, kind as u64, 2);
 }
 
+// How a block's places came: kept, forced, at an edge.
+fn rendered(c: Placings) {
+    number(b" answer=rendered:", c.kept);
+    number(b":", c.forced);
+    number(b":", c.edge);
+}
+
 fn answer_of(answer: Answer) {
     match answer {
         Answer::Number(id) => number(b" answer=number:", id.0),
@@ -42,6 +50,7 @@ fn answer_of(answer: Answer) {
         Answer::Done => {
             io::write_all(1, b" answer=done");
         }
+        Answer::Rendered(c) => rendered(c),
         Answer::Refused(n) => number(b" answer=refused:", n),
     }
 }
@@ -55,6 +64,7 @@ fn desk_answer_of(answer: realseq::Answer) {
         realseq::Answer::Done => {
             io::write_all(1, b" answer=done");
         }
+        realseq::Answer::Rendered(c) => rendered(c),
         realseq::Answer::Refused(n) => number(b" answer=refused:", n),
     }
 }

@@ -1,5 +1,6 @@
 // Plays the first 65,536 bytes of a tape from standard input and lists, for each record, its answer and the whole state behind it (crate state_listing). A failed read counts as the tape's end.
 use apply::Applied;
+use runs::least;
 use sequencer::Answer;
 use sequencer::Outcome;
 use sequencer::Sequencer;
@@ -52,6 +53,11 @@ fn edit(s: Sequencer, kind: u8, p: EditRecord) -> Outcome {
     }
 }
 
+fn process(s: Sequencer, size: usize, pool: &[f32], samples: &mut [f32]) -> Outcome {
+    let n = least(64 * least(s.outputs, 8), samples.len());
+    s.process(size, pool, &mut samples[..n])
+}
+
 // Every other call: done or refused.
 fn rest(a: Applied) -> Outcome {
     let sequencer = a.sequencer;
@@ -74,6 +80,7 @@ fn play(s: Sequencer, call: Call, pool: &[f32], samples: &mut [f32]) -> Outcome 
         Call::PushDuration(p) => push(s, 3, p),
         Call::Edit(p) => edit(s, 4, p),
         Call::EditRelative(p) => edit(s, 5, p),
+        Call::Process(n) => process(s, n as usize, pool, samples),
         _ => rest(apply::apply(s, call, pool, samples)),
     }
 }
@@ -101,6 +108,7 @@ fn is_refused_creation(answer: Answer) -> bool {
         Answer::Past => false,
         Answer::Stored => false,
         Answer::Done => false,
+        Answer::Rendered(_) => false,
     }
 }
 

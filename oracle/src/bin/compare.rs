@@ -13,7 +13,7 @@ use std::process::{Command, ExitCode, Stdio};
 /// As many bytes of a tape as the port's program over states reads.
 const STATE_TAPE: usize = 65_536;
 
-const USAGE: &str = "usage: compare [--desk | --digest] [--tapes N] [--seed S] [--profile P].. \
+const USAGE: &str = "usage: compare [--desk | --digest] [--places] [--tapes N] [--seed S] [--profile P].. \
                      --program PATH [ARGUMENT..]";
 
 fn main() -> ExitCode {
@@ -28,11 +28,17 @@ fn main() -> ExitCode {
 }
 
 fn run(arguments: &[String]) -> Result<Compared, String> {
-    let (format, detail, arguments) = match arguments {
+    let (format, mut detail, mut arguments) = match arguments {
         [first, rest @ ..] if first == "--desk" => (Format::Desk, Detail::Digest, rest),
         [first, rest @ ..] if first == "--digest" => (Format::Tape, Detail::Digest, rest),
         _ => (Format::Tape, Detail::Listing, arguments),
     };
+    if let [first, rest @ ..] = arguments
+        && first == "--places"
+        && detail == Detail::Digest
+    {
+        (detail, arguments) = (Detail::Places, rest);
+    }
     let usable = |profile: &Profile| profile.format == format;
     let (options, rest) = Options::read(arguments, usable)?;
     let [option, program, arguments @ ..] = rest else {
@@ -45,7 +51,7 @@ fn run(arguments: &[String]) -> Result<Compared, String> {
     Ok(compare(&options, |tape| {
         let tape = match (format, detail) {
             (Format::Desk, _) => &as_the_port_lends(format, tape)[..],
-            (_, Detail::Digest) => &tape[..tape.len().min(STATE_TAPE)],
+            (_, Detail::Digest | Detail::Places) => &tape[..tape.len().min(STATE_TAPE)],
             _ => tape,
         };
         let mut expected = Vec::new();

@@ -3,10 +3,11 @@
 //! make them, in the repository's root, once the oracle is built:
 //!     oracle/target/release/deskvectors stdin > crates/desk_trail/stdin
 //!     oracle/target/release/deskvectors stdout > crates/desk_trail/stdout
+//! `deskvectors stdout --places` has the counts of a block's places too (document 02, Paper 12).
 
-use oracle::desk::Desk;
 use oracle::generate::{generate, named};
-use oracle::listing::{Detail, play};
+use oracle::judge;
+use oracle::listing::Detail;
 use oracle::session::{TRAIL_POOL, pool};
 use oracle::tape::{Format, as_the_port_lends};
 use oracle::text::from_text;
@@ -20,15 +21,12 @@ fn main() -> io::Result<()> {
     let mut out = io::stdout().lock();
     match std::env::args().nth(1).as_deref() {
         Some("stdin") => out.write_all(&script),
-        Some("stdout") => play::<Desk>(
-            Format::Desk,
-            Detail::Digest,
-            (),
-            &script,
-            &pool(TRAIL_POOL),
-            &mut out,
-        ),
-        _ => panic!("usage: deskvectors stdin|stdout"),
+        Some("stdout") => {
+            let places = std::env::args().nth(2).as_deref() == Some("--places");
+            let detail = if places { Detail::Places } else { Detail::Digest };
+            judge::play(Format::Desk, detail, &script, &pool(TRAIL_POOL), &mut out)
+        }
+        _ => panic!("usage: deskvectors stdin | deskvectors stdout [--places]"),
     }
 }
 

@@ -1,5 +1,6 @@
 //! Float vectors and rustc's own answers to them: `as f32`, `round` with `as u64`, `total_cmp`, and the vendored curves.
 //! `floatvectors stdin` prints the vectors, `floatvectors stdout` the answers: the files of crates/float_vectors.
+//! The index step has Paper 12's word too: `i` asks for the index, `w` for the word (0 rounded freely, 1 raised, 2 cut).
 //! A vector is a letter and three patterns of 16 hexadecimal digits; an answer is a pattern of 16. Any NaN is written as 7FC00000 or 7FF8000000000000.
 
 use oracle::generate::random::Random;
@@ -33,6 +34,17 @@ fn rank(a: f64, b: f64) -> u64 {
     }
 }
 
+/// Of a nearest whole number: 1 if it is a NaN or below 0, 2 if it is above 2^64 - 1, else 0. Both are asked of rustc's wider integers.
+fn word(nearest: f64) -> u64 {
+    if nearest.is_nan() || (nearest as i128) < 0 {
+        1
+    } else if nearest as u128 > u128::from(u64::MAX) {
+        2
+    } else {
+        0
+    }
+}
+
 impl Vector {
     fn answer(&self) -> u64 {
         let [a, b, c] = self.words.map(f64::from_bits);
@@ -40,6 +52,7 @@ impl Vector {
         match self.kind {
             'n' => single(a as f32),
             'i' => a.round() as u64,
+            'w' => word(a.round()),
             't' => rank(a, b),
             's' => single(smooth5(x)),
             'p' => single(sine_ease(x)),
@@ -110,10 +123,32 @@ fn vectors() -> Vec<Vector> {
     out
 }
 
+/// Where rounding freely, raising and cutting part, and the edges above.
+fn index_vectors() -> Vec<Vector> {
+    let two_64 = 2f64.powi(64);
+    #[rustfmt::skip]
+    let centres = [
+        0.0, 0.3, 0.5, 1.0, 1.5, 2.5, 63.5, 64.0, 64.5, 1e9, 5e-324, 1e-310, f64::MIN_POSITIVE, 2f64.powi(52) - 0.5, 2f64.powi(53), 2f64.powi(63),
+        two_64 - 2048.0, two_64, two_64 + 4096.0, 2f64.powi(65), 2f64.powi(127), 2f64.powi(128), 1e300, f64::MAX, f64::INFINITY,
+    ];
+    let mut bits = vec![f64::NAN.to_bits(), (-f64::NAN).to_bits(), 0x7FF0_0000_0000_0001, 0xFFFF_FFFF_FFFF_FFFF];
+    for x in centres {
+        for x in [x, x.next_up(), x.next_down()] {
+            bits.extend([x.to_bits(), (-x).to_bits()]);
+        }
+    }
+    bits.extend(edges());
+    let mut random = Random::new(12);
+    bits.extend((0..300).map(|_| drawn(&mut random) ^ random.below(2) << 63));
+    let each = |a| ['i', 'w'].map(|kind| Vector { kind, words: [a, 0, 0] });
+    bits.into_iter().flat_map(each).collect()
+}
+
 fn main() {
-    let answers = std::env::args().nth(1).as_deref() == Some("stdout");
+    let arguments: Vec<String> = std::env::args().skip(1).collect();
+    let answers = arguments.last().is_some_and(|last| last == "stdout");
     let mut text = String::new();
-    for v in vectors() {
+    for v in vectors().into_iter().chain(index_vectors()) {
         let [a, b, c] = v.words;
         text += &if answers { format!("{:016X}\n", v.answer()) } else { format!("{} {a:016X} {b:016X} {c:016X}\n", v.kind) };
     }

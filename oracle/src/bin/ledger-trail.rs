@@ -22,6 +22,10 @@ fn main() -> ExitCode {
                 detail = Detail::Digest;
                 rest = more;
             }
+            [option, more @ ..] if option == "--places" && detail == Detail::Digest => {
+                detail = Detail::Places;
+                rest = more;
+            }
             [option, name, more @ ..] if option == "--mutation" => {
                 let Some(named) = Mutation::named(name) else {
                     return usage();
@@ -42,7 +46,7 @@ fn main() -> ExitCode {
 }
 
 fn usage() -> ExitCode {
-    eprintln!("usage: ledger-trail [--desk | --digest] [--mutation NAME] < TAPE");
+    eprintln!("usage: ledger-trail [[--desk | --digest] [--places]] [--mutation NAME] < TAPE");
     for mutation in Mutation::ALL {
         eprintln!("  {}", mutation.name());
     }

@@ -1,6 +1,7 @@
 //! Prints the listing of the desk script on standard input, with the desk's two queues, by the original where all gains
 //! are 1.0, else by the second ledger.
-//! `--full` adds the whole state; `--digest` has it as digests, as the port's desk_trail prints it.
+//! `--full` adds the whole state; `--digest` has it as digests, as the port's desk_trail prints it, with `--places` the
+//! counts of a block's places too.
 
 use oracle::judge;
 use oracle::listing::Detail;
@@ -15,8 +16,9 @@ fn main() -> ExitCode {
         detail = match argument.as_str() {
             "--full" => Detail::Full,
             "--digest" => Detail::Digest,
+            "--places" if detail == Detail::Digest => Detail::Places,
             _ => {
-                eprintln!("usage: oracle-desk [--full | --digest] < SCRIPT");
+                eprintln!("usage: oracle-desk [--full | --digest [--places]] < SCRIPT");
                 return ExitCode::from(2);
             }
         };

@@ -1,6 +1,7 @@
 //! Prints what `trail` must print for the tape on standard input, by the original where all gains are 1.0, else by the second
 //! ledger.
-//! `--full` adds the whole state, `--digest` has it as digests in place of the listing, as the port's state_trail prints it;
+//! `--full` adds the whole state, `--digest` has it as digests in place of the listing, as the port's state_trail prints it,
+//! with `--places` the counts of a block's places too;
 //! `--script` takes kinds 11 to 14 too.
 
 use oracle::judge;
@@ -16,9 +17,10 @@ fn main() -> ExitCode {
         match argument.as_str() {
             "--full" => detail = Detail::Full,
             "--digest" => detail = Detail::Digest,
+            "--places" if detail == Detail::Digest => detail = Detail::Places,
             "--script" => format = Format::Script,
             _ => {
-                eprintln!("usage: oracle-trail [--full | --digest] [--script] < TAPE");
+                eprintln!("usage: oracle-trail [--full | --digest [--places]] [--script] < TAPE");
                 return ExitCode::from(2);
             }
         }

@@ -3,10 +3,11 @@
 //! built:
 //!     oracle/target/release/statevectors stdin > crates/state_trail/stdin
 //!     oracle/target/release/statevectors stdout > crates/state_trail/stdout
+//! `statevectors stdout --places` has the counts of a block's places too (document 02, Paper 12).
 
-use oracle::engine::Engine;
 use oracle::generate::{Gains, PROFILES, Profile, generate};
-use oracle::listing::{Detail, play};
+use oracle::judge;
+use oracle::listing::Detail;
 use oracle::session::{TRAIL_POOL, pool};
 use oracle::tape::{Format, bytes, records};
 use oracle::text::from_text;
@@ -20,15 +21,16 @@ fn main() -> io::Result<()> {
     let mut out = io::stdout().lock();
     match std::env::args().nth(1).as_deref() {
         Some("stdin") => out.write_all(&tape),
-        Some("stdout") => play::<Engine>(
-            Format::Tape,
-            Detail::Digest,
-            (),
-            &tape,
-            &pool(TRAIL_POOL),
-            &mut out,
-        ),
-        _ => panic!("usage: statevectors stdin|stdout"),
+        Some("stdout") => {
+            let places = std::env::args().nth(2).as_deref() == Some("--places");
+            let detail = if places {
+                Detail::Places
+            } else {
+                Detail::Digest
+            };
+            judge::play(Format::Tape, detail, &tape, &pool(TRAIL_POOL), &mut out)
+        }
+        _ => panic!("usage: statevectors stdin | statevectors stdout [--places]"),
     }
 }
 

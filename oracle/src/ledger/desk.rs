@@ -5,7 +5,7 @@ use super::event::{Event, edit_state};
 use super::mutation::Mutation;
 use super::refusals;
 use crate::call::{Edit, Mode, Push, PushKind, Timing};
-use crate::player::{Answer, Player, Pool};
+use crate::player::{Answer, Places, Player, Pool};
 use crate::state::{Counts, MessageState, State};
 use std::collections::VecDeque;
 
@@ -215,5 +215,9 @@ impl Player for DeskLedger {
 
     fn scratch_given(&self) -> Option<usize> {
         self.ledger.scratch_given()
+    }
+
+    fn places(&self) -> Option<Places> {
+        self.ledger.places()
     }
 }

@@ -6,7 +6,7 @@ use super::numbers::total_order;
 use super::refusals;
 use super::samples::{self, Times};
 use crate::call::{Edit, Mode, Push, PushKind, Timing};
-use crate::player::{Answer, Player, Pool};
+use crate::player::{Answer, Places, Player, Pool};
 use crate::state::{Counts, State};
 use std::cmp::Ordering;
 
@@ -32,6 +32,8 @@ pub struct Ledger {
     pub next: u64,
     /// Samples that the last sounding event gave to the scratch in the last block.
     given: usize,
+    /// How the last block's places came.
+    places: Places,
 }
 
 /// W's order: by start, then by number.
@@ -64,6 +66,7 @@ impl Ledger {
             d: 1.0 / 44_100.0,
             next: first,
             given: 0,
+            places: Places::default(),
         }
     }
 
@@ -219,15 +222,16 @@ impl Ledger {
             channel[..8 * n.div_ceil(8)].fill(0.0);
         }
         self.given = 0;
+        self.places = Places::default();
         if self.mutation == Some(Mutation::BlockAsTicks) {
             return self.block_as_ticks(n, output, pool);
         }
         let e = self.t + self.d * n as f64;
         self.begin(e);
         let (times, mutation) = (self.times(e), self.mutation);
-        let mut given = 0;
+        let (mut given, mut places) = (0, Places::default());
         self.sweep(|event| {
-            let (run, s) = samples::block(event, n, times, pool, mutation);
+            let (run, s) = samples::block(event, n, times, pool, mutation, &mut places);
             if run.is_empty() {
                 return;
             }
@@ -241,7 +245,7 @@ impl Ledger {
                 scratch[..run.len()].copy_from_slice(&run);
             }
         });
-        self.given = given;
+        (self.given, self.places) = (given, places);
         self.t = e;
     }
 
@@ -414,5 +418,9 @@ impl Player for Ledger {
 
     fn scratch_given(&self) -> Option<usize> {
         Some(self.given)
+    }
+
+    fn places(&self) -> Option<Places> {
+        Some(self.places)
     }
 }

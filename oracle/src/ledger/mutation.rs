@@ -16,6 +16,10 @@ pub enum Mutation {
     RampWithGain,
     /// A source whose gain is 0 does not move.
     GainZeroHolds,
+    /// A fade-out place at the edge that is raised to s counts as forced.
+    EdgeRaisedIsForced,
+    /// The places of an event that gives no samples are not counted.
+    SilentNotCounted,
     /// A push straight to the sounding list takes a stored edit.
     PushTakesEdit,
     /// A reset in mode All empties the edits.
@@ -27,7 +31,7 @@ pub enum Mutation {
 }
 
 impl Mutation {
-    pub const ALL: [Mutation; 11] = [
+    pub const ALL: [Mutation; 13] = [
         Mutation::SwapOrderIgnored,
         Mutation::MovedEventSkipped,
         Mutation::FadeByRate,
@@ -35,6 +39,8 @@ impl Mutation {
         Mutation::GainAfterFades,
         Mutation::RampWithGain,
         Mutation::GainZeroHolds,
+        Mutation::EdgeRaisedIsForced,
+        Mutation::SilentNotCounted,
         Mutation::PushTakesEdit,
         Mutation::ResetEmptiesEdits,
         Mutation::BlockAsTicks,
@@ -50,6 +56,8 @@ impl Mutation {
             Mutation::GainAfterFades => "gain-after-fades",
             Mutation::RampWithGain => "ramp-with-gain",
             Mutation::GainZeroHolds => "gain-zero-holds",
+            Mutation::EdgeRaisedIsForced => "edge-raised-is-forced",
+            Mutation::SilentNotCounted => "silent-not-counted",
             Mutation::PushTakesEdit => "push-takes-edit",
             Mutation::ResetEmptiesEdits => "reset-empties-edits",
             Mutation::BlockAsTicks => "block-as-ticks",

@@ -5,13 +5,12 @@ use mathlib.Core.Path.{_≡_, ap, _∙_}
 use Prim.Native.Nat.{ℕ}
 use lib.Ieee.{Float}
 use lib.ListN.{length}
-use Rattle.sequencer.specs.declared.Sequencer.{Sequencer}
-use Rattle.sequencer.specs.Rendering.{renderedBlock, renderedBlockOut}
+use Rattle.sequencer.specs.declared.Rendered.{Rendered}
+use Rattle.sequencer.specs.Rendering.{renderedBlock, renderedPlaces, renderedWith, renderedBlockOut}
 use Rattle.realseq.specs.declared.SequencerBackend.{SequencerBackend}
 use Rattle.realseq.specs.Handling.{pastSent, drained}
-use Rattle.realseq.specs.Answers.{refuses}
+use Rattle.realseq.specs.Answers.{renders, refuses}
 use Rattle.realseq.specs.Backs.{withEngine, blockNo, blocks, blockOuts}
-use Rattle.realseq.specs.Answers.{accepts}
 use Rattle.realseq.proofs.Choices.{refused, done as gives, unheard, heard}
 use Rattle.realseq.proofs.SequencerBackend.process.Statement.{statement}
 use Rattle.realseq.proofs.SequencerBackend.process.Tie as tie
@@ -21,11 +20,12 @@ module _ (pool : List Float) (n : ℕ) (len : ℕ) (d : SequencerBackend) (k : �
   unfolding blocks
   block-refused h = refused k (blockNo d n len) q d _ h
 
-  block-done : k ≡ 0 → (e : SequencerBackend) → e ≡ drained d → (s : Sequencer) (f : SequencerBackend) → s ≡ renderedBlock pool n (e .sequencer) → f ≡ pastSent (withEngine e s) → accepts f ≡ blocks pool n len d
+  block-done : k ≡ 0 → (e : SequencerBackend) → e ≡ drained d → (r : Rendered) (f : SequencerBackend) → r ≡ renderedWith pool n (e .sequencer) → f ≡ pastSent (withEngine e (r .sequencer)) → renders (r .places) f ≡ blocks pool n len d
   unfolding blocks
-  block-done z e h s f g i =
+  block-done z e h r f g i =
       gives k (blockNo d n len) q d _ _ z
-      (ap accepts (i ∙ ap (λ (x : Sequencer). pastSent (withEngine e x)) g) ∙ ap (λ (x : SequencerBackend). accepts (pastSent (withEngine x (renderedBlock pool n (x .sequencer))))) h)
+      (ap (renders (r .places)) i ∙ ap (λ (x : Rendered). renders (x .places) (pastSent (withEngine e (x .sequencer)))) g
+      ∙ ap (λ (x : SequencerBackend). renders (renderedPlaces n (x .sequencer)) (pastSent (withEngine x (renderedBlock pool n (x .sequencer))))) h)
 
 module _ (pool out : List Float) (n : ℕ) (d : SequencerBackend) (k : ℕ) (q : k ≡ blockNo d n (length out)) where
   block-unheard : (k ≡ 0 → ⊥) → out ≡ blockOuts pool n d out
@@ -43,7 +43,7 @@ returns c =
 
 returns-2 : tie.Need-returns-2
 returns-2 c =
-    let r = c .before .before .before in
+    let r = c .before .before .before .before .before in
     let m = r .before .before .before in
     let no = m .before .before .process-refusal .ensures in
     let z = m .before .if1 .left in

@@ -12,8 +12,8 @@ returns c = (rw (← c .before .process-refusal .ensures, ne-eqb _ 0 (c .if1 .ta
 returns-2 : tie.Need-returns-2
 unfolding blocks blockOuts
 returns-2 c =
-    let d = c .before .before .before .before in
-    let r = c .before .before .render-block .ensures in
+    let d = c .before .before .before .before .before .before in
+    let r = c .before .before .before .before .render-block .ensures in
     (rw (← d .before .process-refusal .ensures, eq-eqb _ 0 (d .if1 .left), r .0), rw (← d .before .process-refusal .ensures, eq-eqb _ 0 (d .if1 .left)) (r .1))
 
 pub process-spec : {M : Type 1} → statement M

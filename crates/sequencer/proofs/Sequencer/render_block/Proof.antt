@@ -2,7 +2,7 @@
 use borrow.Author.Needs.{needs}
 use mathlib.Core.List.{List, _++_, _∷_}
 use mathlib.Core.Logic.{⊎-elim}
-use mathlib.Core.Path.{_≡_, refl, sym, ap, _∙_, subst}
+use mathlib.Core.Path.{_≡_, refl, sym, ap, ap₂, _∙_, subst}
 use Prim.Native.Nat.{ℕ, zero, suc, _-_, _/_, _^_, _≤_, _<_, min}
 use native.Mathlib.Nat.{sub-zero}
 use native.Mathlib.Omega.{arith}
@@ -10,15 +10,18 @@ use borrow.Rule.Slice.PartMut.{same-len-mid}
 use denote.Ref.{now}
 use lib.Ieee.{Float, ofBits}
 use lib.ListN.{length, getD, take, drop, replicate}
+use Rattle.event.specs.declared.Placings.{Placings}
 use Rattle.event.specs.Events.{blank}
+use Rattle.event.specs.Placings.{noPlacings}
 use lib.Seq.{length-take-le, take-at}
 use Rattle.floats.specs.Arithmetic.{_+ᵈ_, _×ᵈ_, zeroᶠ, whole-is}
 use Rattle.ledger.specs.BlockSamples.{Span, channelAfter, afterBlock, overlay}
+use Rattle.mixing.specs.declared.Processed.{Processed}
 use Rattle.mixing.specs.Blocks.{asSpan, clearedPlaces}
 use Rattle.sequencer.specs.declared.Sequencer.{Sequencer}
 use Rattle.sequencer.specs.Parts.{withSounding}
 use Rattle.sequencer.specs.Moves.{advanced}
-use Rattle.sequencer.specs.Rendering.{addBlock, blockPass, renderedBlock, renderedBlockOut}
+use Rattle.sequencer.specs.Rendering.{addBlock, blockPass, addPlaces, placesPass, renderedBlock, renderedPlaces, renderedBlockOut}
 use Rattle.sequencer.specs.Steady.{Passing, passing-start, passing-on, passOf, passing-end, Scanning, scanning-start, scanning-on, steady}
 use Rattle.sequencer.proofs.Sequencer.render_block.Statement.{statement}
 use Rattle.sequencer.proofs.Sequencer.render_block.Tie as tie
@@ -42,6 +45,10 @@ Done pool n s S x e =
     let r = passOf (afterBlock (until s n e)) (addBlock pool (until s n e)) (replicate (clearedPlaces n) zeroᶠ) (advanced s e) in
     (S ≡ withSounding (advanced s e) (r .items)) × (x ≡ r .sum)
 
+-- c is how its places came
+abbrev Counted : (n : ℕ) → (s : Sequencer) → (c : Placings) → (e : Float) → Type 0
+Counted n s c e = c ≡ passOf (afterBlock (until s n e)) (addPlaces (until s n e)) noPlacings (advanced s e) .sum
+
 abbrev Inv-loop : tie.InvT-loop
 Inv-loop size pool out self time end span limit threshold n k₀ k = Scanning limit self n k
 
@@ -49,10 +56,13 @@ abbrev μ-loop : tie.MeasureT-loop
 μ-loop size pool out self time end span limit threshold n k₀ k = n - k
 
 abbrev Inv-loop2 : tie.InvT-loop2
-Inv-loop2 size pool out self₀ time end span limit threshold n k m w mix₀ i₀ self mix i = Passing (afterBlock (asSpan span)) (addBlock pool (asSpan span)) (replicate (clearedPlaces size) zeroᶠ) self₀ m i self (take w mix) × (length mix ≡ 64)
+Inv-loop2 size pool out self₀ time end span limit threshold n k m w places₀ mix₀ i₀ self places mix i =
+    Passing (afterBlock (asSpan span)) (addBlock pool (asSpan span)) (replicate (clearedPlaces size) zeroᶠ) self₀ m i self (take w mix)
+    × Passing (afterBlock (asSpan span)) (addPlaces (asSpan span)) noPlacings self₀ m i self places
+    × (length mix ≡ 64)
 
 abbrev μ-loop2 : tie.MeasureT-loop2
-μ-loop2 size pool out self₀ time end span limit threshold n k m w mix₀ i₀ self mix i = m - i
+μ-loop2 size pool out self₀ time end span limit threshold n k m w places₀ mix₀ i₀ self places mix i = m - i
 
 -- the engine's count of those let go is a u64
 let-go-fits : (c : tie.Start Inv-loop μ-loop Inv-loop2 μ-loop2) → c .args .t1 .«let_go» < 2 ^ 64
@@ -70,55 +80,67 @@ loop-again c = scanning-on (c .before .before .before .loop-test .taken) (c .if1
 loop2-holds : tie.Need-loop2-holds Inv-loop μ-loop Inv-loop2 μ-loop2
 unfolding ofBits
 loop2-holds c =
-    let k = c .cleared-places .result in
-    (passing-start (c .before .least2 .ensures) (take-replicate k 64 zeroᶠ (omega (arith, c .cleared-places .ensures)) ∙ ap (λ (n : ℕ). replicate n zeroᶠ) (c .cleared-places .ensures)), refl)
+    let d = c .before in
+    let k = d .cleared-places .result in (
+      passing-start (d .before .least2 .ensures) (take-replicate k 64 zeroᶠ (omega (arith, d .cleared-places .ensures)) ∙ ap (λ (n : ℕ). replicate n zeroᶠ) (d .cleared-places .ensures)),
+      passing-start (d .before .least2 .ensures) (c .new .ensures),
+      refl,
+    )
 
 part-mix-end : tie.Need-part-mix-end Inv-loop μ-loop Inv-loop2 μ-loop2
-part-mix-end c = omega (arith, c .before .before .before .cleared-places .ensures, c .before .before .loop2 .inv .1)
+part-mix-end c = omega (arith, c .before .before .before .before .cleared-places .ensures, c .before .before .loop2 .inv .2)
 
 mul-event-3 : tie.Need-mul-event-3 Inv-loop μ-loop Inv-loop2 μ-loop2
-mul-event-3 c = omega (arith, c .before .before .before .before .before .loop2 .inv .0 .count, c .before .before .before .before .loop2-test .taken)
+mul-event-3 c = omega (arith, c .before .before .before .before .before .before .loop2 .inv .0 .count, c .before .before .before .before .before .loop2-test .taken)
 
 element-set-from-event : tie.Need-element-set-from-event Inv-loop μ-loop Inv-loop2 μ-loop2
-element-set-from-event c = omega (arith, c .before .before .before .before .before .loop2 .inv .0 .count, c .before .before .before .before .loop2-test .taken)
+element-set-from-event c = omega (arith, c .before .before .before .before .before .before .loop2 .inv .0 .count, c .before .before .before .before .before .loop2-test .taken)
 
 loop2-again : tie.Need-loop2-again Inv-loop μ-loop Inv-loop2 μ-loop2
 loop2-again c =
-    let k = c .before .before .before .before .before .before .cleared-places .result in
-    let l = c .before .before .before .before .before .loop2 in
-    let r = c .before .process-event in
+    let t = c .before .before .before .before .before .before in
+    let l = t .before .loop2 in
+    let d = t .before .before .before in
+    let k = d .cleared-places .result in
+    let r = c .before .before .before .process-event in
     let ys = r .last .1 .1 .1 .0 in
     let kept = r .kept .1 .1 .1 .0 in
-    let h : k ≤ length (l .mix) = omega (arith, c .before .before .before .before .before .before .cleared-places .ensures, l .inv .1) in
+    let h : k ≤ length (l .mix) = omega (arith, d .cleared-places .ensures, l .inv .2) in
     let q : take k (ys ++ drop (k - 0) (l .mix)) ≡ ys = take-at ys (drop (k - 0) (l .mix)) k (kept ∙ rw sub-zero (length-take-le k (l .mix) h)) in
-    let a = c .before .before .before .before .before .before .before .before .before .before .before .before .before .before .before .before .before .args in
-    let b = until (a .t1) (a .size) (endBy (a .t1) (c .before .before .before .before .before .before .before .before .before .before .before .before .before .before .nearest-u64-to-f64 .result)) in
-    let v : ys ≡ channelAfter (now (a .pool)) b (getD (l .self .active) (l .i) blank) (take k (l .mix)) = r .ensures .1 ∙ rw sub-zero in (
-      passing-on (r .ensures .0) (q ∙ v) (c .before .before .before .before .loop2-test .taken) (l .inv .0),
-      same-len-mid 0 (k - 0) (l .mix) ys kept ∙ l .inv .1,
+    let a = d .before .before .before .before .before .before .before .before .before .before .before .args in
+    let b = until (a .t1) (a .size) (endBy (a .t1) (d .before .before .before .before .before .before .before .before .nearest-u64-to-f64 .result)) in
+    let v : ys ≡ channelAfter (now (a .pool)) b (getD (l .self .active) (l .i) blank) (take k (l .mix)) = r .ensures .1 ∙ rw sub-zero in
+    let e = ap (λ (p : Processed). p .event) (r .ensures .0) in (
+      passing-on e (q ∙ v) (t .loop2-test .taken) (l .inv .0),
+      passing-on e (ap (λ (p : Processed). p .places) (r .ensures .0)) (t .loop2-test .taken) (l .inv .1),
+      same-len-mid 0 (k - 0) (l .mix) ys kept ∙ l .inv .2,
     )
 
 part-overlay-channels-end : tie.Need-part-overlay-channels-end Inv-loop μ-loop Inv-loop2 μ-loop2
-part-overlay-channels-end c = omega (arith, c .before .before .before .before .cleared-places .ensures, c .before .before .before .loop2 .inv .1)
+part-overlay-channels-end c = omega (arith, c .before .before .before .before .before .cleared-places .ensures, c .before .before .before .loop2 .inv .2)
 
 returns : tie.Need-returns Inv-loop μ-loop Inv-loop2 μ-loop2
-unfolding renderedBlock renderedBlockOut blockPass
+unfolding renderedBlock renderedBlockOut renderedPlaces blockPass placesPass
 returns c =
-    let a = c .before .before .before .before .before .before .before .before .before .before .before .before .before .before .before .before .before .before .before .args in
+    let e = c .before .before .before .before .before .before in
+    let l = e .before .loop2 in
+    let d = e .before .before .before in
+    let k = d .cleared-places .result in
+    let j = d .before .before in
+    let a = d .before .before .before .before .before .before .before .before .before .before .before .args in
     let out = now (a .out) in
-    let k = c .before .before .before .before .before .before .before .before .cleared-places .result in
-    let l = c .before .before .before .before .before .before .before .loop2 in
-    let q = ap (endBy (a .t1)) (c .before .before .before .before .before .before .before .before .before .before .before .before .before .before .before .before .nearest-u64-to-f64 .ensures ∙ sym (whole-is (a .size))) in
-    let w = subst (Done (now (a .pool)) (a .size) (a .t1) (l .self) (take k (l .mix))) q (passing-end (begun (c .before .before .before .before .before .before .before .before .before .before)) (c .before .before .before .before .before .before .loop2-test .left) (l .inv .0)) in
+    let q = ap (endBy (a .t1)) (d .before .before .before .before .before .before .before .before .nearest-u64-to-f64 .ensures ∙ sym (whole-is (a .size))) in
+    let w = subst (Done (now (a .pool)) (a .size) (a .t1) (l .self) (take k (l .mix))) q (passing-end (begun j) (e .loop2-test .left) (l .inv .0)) in
+    let v = subst (Counted (a .size) (a .t1) (l .places)) q (passing-end (begun j) (e .loop2-test .left) (l .inv .1) .1) in
     let p : take (k - 0) (l .mix) ≡ take k (l .mix) = rw sub-zero in
-    (w .0, c .before .before .overlay-channels .ensures ∙ ap (λ (run : List Float). overlay (length out / 64) (take 64 run) out) (p ∙ w .1))
+    (ap₂ (λ (s : Sequencer) (c : Placings). record { sequencer = s; places = c }) (w .0) v, c .before .before .overlay-channels .ensures ∙ ap (λ (run : List Float). overlay (length out / 64) (take 64 run) out) (p ∙ w .1))
 
 pub render-block-spec : {M : Type 1} → statement M
 render-block-spec =
     tie.close
     (tie.spec Inv-loop μ-loop Inv-loop2 μ-loop2 (λ c κs. search needs) (λ c κs. search needs) (λ c. scanning-start (c .least .ensures))
     (λ c. search needs) (λ c. search needs) (λ c. search needs) (λ c. search needs) loop-again (λ c. search needs) (λ c κs. search needs)
-    (λ c κs. search needs) (λ c κs. search needs) (λ c κs. search needs) loop2-holds (λ c. search needs) (λ c. search needs)
+    (λ c κs. search needs) (λ c κs. search needs) (λ c κs. search needs) (λ c κs. search needs) loop2-holds (λ c. search needs) (λ c. search needs)
     (λ c. search needs) (λ c. search needs) part-mix-end (λ c κs. search needs) mul-event-3 element-set-from-event (λ c. search needs)
     (λ c. search needs) loop2-again (λ c. search needs) (λ c. search needs) part-overlay-channels-end (λ c κs. search needs)
     (λ c. search needs) returns)
