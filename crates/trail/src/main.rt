@@ -1,9 +1,9 @@
-// Reads a tape of any length from standard input and lists it. A failed read counts as the tape's end; a failed write ends the listing.
+// Reads a tape of any length from standard input and lists it, in pieces of 64 KB each way. A failed read counts as the tape's end; a failed write ends the listing. Both are said on standard error.
+mod lines;
+
 ghost use mathlib.Core.Path.{_≡_};
-ghost use Prim.Native.Nat.{_-_, _≤_, min};
+ghost use Prim.Native.Nat.{_+_, _-_, _≤_, min};
 ghost use lib.ListN.{length, take, drop};
-use apply::Applied;
-use sequencer::Counts;
 use tape::reader::Cursor;
 use tape::reader::Read;
 
@@ -25,13 +25,19 @@ fn shift(buf: &mut [u8], at: usize, have: usize) -> usize
     to
 }
 
-// Reads on behind the bytes that are still to be read, which go to the front; answers how many bytes are there then.
-fn refill(buf: &mut [u8], at: usize, have: usize) -> usize
-    ensures { λ r. ⌜ r ≤ length (now (buf .exit)) ⌝ }
+// Reads once, behind the first `have` bytes; answers how many bytes came, none at the end or where the read fails.
+fn read_on(buf: &mut [u8], have: usize) -> usize
+    ensures { λ r. ⌜ (have ≤ length (now (buf .entry)) → have + r ≤ length (now (buf .entry))) ⌝ }
 {
-    let kept = shift(buf, at, have);
-    let got = io::read_full(0, &mut buf[kept..]);
-    kept + got
+    if buf.len() < have {
+        return 0;
+    }
+    let got = libc::read(0, &mut buf[have..]);
+    if got < 0 {
+        io::write_all(2, b"trail: standard input cannot be read\n");
+        return 0;
+    }
+    io::count(got, &buf[have..])
 }
 
 // Whether `have` bytes hold a whole record of any kind from `at` on: reading one needs no more than 47 (tape, specs/Window).
@@ -39,46 +45,53 @@ fn enough(at: usize, have: usize) -> bool {
     if have < at { false } else { 47 <= have - at }
 }
 
-// Lists an applied record; false where the listing ends there.
-fn list(kind: u8, a: Applied, counts: Counts, samples: &[f32]) -> bool {
-    listing_out::list(
-        kind,
-        a.refusal,
-        counts,
-        samples,
-        a.channels,
-        a.each,
-        a.stride,
-    )
-}
-
 fn main() {
-    let mut buf = io::buffer();
+    let mut buf = io::large_buffer();
+    let mut text = io::large_buffer();
     let pool = tape::pool::trail_pool();
     let mut samples = apply::silence();
     let mut s = apply::start();
     let mut first = true;
     let mut at: usize = 0;
     let mut have: usize = 0;
+    let mut used: usize = 0;
+    let mut whole = false;
     let mut turns = u64::MAX;
     while turns > 0 {
         turns = turns - 1;
-        if !enough(at, have) {
-            have = refill(&mut buf, at, have);
+        if whole || enough(at, have) {
+            let c = Cursor { at, first };
+            let r = c.read(&buf[..have]);
+            let Read::Record { kind, call, next } = r else {
+                lines::finish(r, s.counts(), &mut text, used);
+                return;
+            };
+            let a = apply::apply(s, call, &pool, &mut samples);
+            s = a.sequencer;
+            let l = lines::list(
+                kind,
+                a.refusal,
+                s.counts(),
+                &samples,
+                a.channels,
+                a.each,
+                a.stride,
+                &mut text,
+                used,
+            );
+            used = l.used;
+            if !l.on {
+                lines::finish(Read::End, s.counts(), &mut text, used);
+                return;
+            }
+            first = next.first;
+            at = next.at;
+        } else {
+            have = shift(&mut buf, at, have);
             at = 0;
+            let got = read_on(&mut buf, have);
+            whole = got == 0;
+            have = have + got;
         }
-        let c = Cursor { at, first };
-        let r = c.read(&buf[..have]);
-        let Read::Record { kind, call, next } = r else {
-            listing_out::stop(r, s.counts());
-            return;
-        };
-        let a = apply::apply(s, call, &pool, &mut samples);
-        s = a.sequencer;
-        if !list(kind, a, s.counts(), &samples) {
-            return;
-        }
-        first = next.first;
-        at = next.at;
     }
 }

@@ -69,6 +69,7 @@ fn output(program: &str, arguments: &[String], tape: &[u8]) -> Result<Vec<u8>, S
         .args(arguments)
         .stdin(Stdio::piped())
         .stdout(Stdio::piped())
+        .stderr(Stdio::null()) // trail says there which refusal stops a tape
         .spawn();
     let mut child = command.map_err(|error| format!("{program}: {error}"))?;
     let (stdin, stdout) = (child.stdin.take(), child.stdout.take());
