@@ -1,22 +1,39 @@
-//! The port against the original, in turns, as a table. README.md says what is compared.
+//! The port against the original, in turns, as tables. README.md says what is compared.
 
-use oracle::{call, state}; // the vendored files name these
+// The oracle's files that the Rust side is made of, compiled here again; they name the three modules.
+use oracle::{call, player, state};
 #[path = "../../oracle/src/original/mod.rs"]
 #[rustfmt::skip]
 mod original;
+#[path = "../../oracle/src/refusal.rs"]
+#[allow(dead_code)]
+mod refusal;
+#[path = "../../oracle/src/tape.rs"]
+#[allow(dead_code)]
+mod tape;
+
+mod clock;
 mod port;
+mod programs;
+mod render;
 mod rust;
+mod tapes;
 mod units;
 
+use clock::bench_now;
 use original::buffer::{BufferMut, BufferVec};
-use port::bench_now;
 use std::hint::black_box;
+use std::path::Path;
 use std::sync::Arc;
+use std::time::Instant;
 
 /// Turns of each side; the best counts.
-const TURNS: usize = 41;
-/// A turn of the slower side lasts about so long, in nanoseconds.
-const TURN: u64 = 2_000_000;
+const TURNS: u64 = 41;
+/// Fewer where they would last longer than this, but so many at least. Times are in nanoseconds.
+const LINE: u64 = 4_000_000_000;
+const FEWEST: u64 = 5;
+/// A turn of the slower side lasts so long at least.
+const TURN: u64 = 1_000_000;
 /// In so many blocks no clip runs past the pool.
 const BLOCKS: u64 = 2000;
 const POOL: usize = 64 * (BLOCKS as usize + 8);
@@ -26,11 +43,16 @@ type Side<'a> = &'a mut dyn FnMut(u64) -> u64;
 
 /// The best turn of each side, in nanoseconds a round. The sides take turns; a turn has `most` rounds at most.
 fn best<const N: usize>(most: u64, mut sides: [Side; N]) -> [f64; N] {
-    let few = 4;
-    let slowest = sides.iter_mut().map(|side| side(few)).max().unwrap_or(1);
-    let rounds = (TURN * few / slowest.max(1)).clamp(1, most);
+    let mut rounds = 1;
+    let slowest = loop {
+        let slowest = sides.iter_mut().map(|side| side(rounds)).max().unwrap_or(1);
+        if slowest >= TURN || rounds == most {
+            break slowest.max(1);
+        }
+        rounds = (2 * rounds).min(most);
+    };
     let mut least = [u64::MAX; N];
-    for _ in 0..TURNS {
+    for _ in 0..(LINE / slowest).clamp(FEWEST, TURNS) {
         for (least, side) in least.iter_mut().zip(&mut sides) {
             *least = side(rounds).min(*least);
         }
@@ -307,9 +329,58 @@ fn starts(n: u64, pool: &Arc<[f32]>) {
     }
 }
 
+/// A tape through the C entry, and through the same loop in Rust.
+fn entry(what: &str, tape: &[u8]) {
+    let records = tapes::count(tape);
+    // Room for 64 samples of 8 channels a record, and marked where nothing is written.
+    let mut theirs = vec![0xA5; 4 * 64 * 8 * records];
+    let mut ours = theirs.clone();
+    let length = render::render(tape, &mut theirs);
+    assert_eq!(
+        port::render(tape, &mut ours),
+        length,
+        "{what}: the counts differ"
+    );
+    assert!(ours == theirs, "{what}: the bytes differ");
+    ours.truncate(length);
+    theirs.truncate(length);
+    let times = best(
+        1_000_000,
+        [
+            &mut |n| {
+                timed(n, || {
+                    assert_eq!(port::render(black_box(tape), &mut ours), length)
+                })
+            },
+            &mut |n| {
+                timed(n, || {
+                    assert_eq!(render::render(black_box(tape), &mut theirs), length)
+                })
+            },
+        ],
+    );
+    show(what, times, records);
+}
+
+/// A tape through the program `trail`, and through `oracle-trail`.
+fn trail(what: &str, ours: &str, theirs: &str, tape: &[u8], folder: &Path) {
+    let file = folder.join("tape");
+    std::fs::write(&file, tape).expect("the folder takes a tape");
+    let same = programs::output(ours, &file) == programs::output(theirs, &file);
+    assert!(same, "{what}: the listings differ");
+    let times = best(
+        1_000_000,
+        [&mut |n| programs::timed(ours, &file, n), &mut |n| {
+            programs::timed(theirs, &file, n)
+        }],
+    );
+    show(what, times, tapes::count(tape));
+}
+
 fn main() {
     let pool: Arc<[f32]> = (0..POOL).map(|k| (k % 4096) as f32 / 4096.0).collect();
-    let start = bench_now();
+    let arguments: Vec<String> = std::env::args().collect();
+    let start = Instant::now();
 
     head("sample loops, ns a sample");
     for channels in [1, 8] {
@@ -353,6 +424,36 @@ fn main() {
     for n in [16, 256] {
         starts(n, &pool);
     }
-    let seconds = (bench_now() - start) / 1_000_000_000;
-    println!("\nThe best of {TURNS} turns, in turns; {seconds} s in all.");
+    head("tapes through the C entry, ns a record");
+    for (what, tape) in [
+        ("music, 1 ch", tapes::music(1, false, 1_000)),
+        ("music, 2 ch", tapes::music(2, false, 1_000)),
+        ("music, 8 ch", tapes::music(8, false, 1_000)),
+        (
+            "music, 2 ch, a gain for each clip",
+            tapes::music(2, true, 1_000),
+        ),
+        ("ticks", tapes::ticks()),
+        ("blocks", tapes::blocks()),
+        ("dense", tapes::dense()),
+        ("edits", tapes::edits()),
+        ("random mix", tapes::mix(2_000)),
+    ] {
+        entry(what, &tape);
+    }
+    if let [_, ours, theirs, folder] = &arguments[..] {
+        head("tapes through the programs, ns a record");
+        for (what, tape) in [
+            ("trail, music, 1 ch", tapes::music(1, false, 10_000)),
+            ("trail, random mix", tapes::mix(6_000)),
+        ] {
+            trail(what, ours, theirs, &tape, Path::new(folder));
+        }
+    } else {
+        println!(
+            "\nSkipped: trail against oracle-trail, since target/bin/trail is not there (`rt check trail`)."
+        );
+    }
+    let seconds = start.elapsed().as_secs();
+    println!("\nThe best of {TURNS} turns, in turns, by CPU time; {seconds} s in all.");
 }

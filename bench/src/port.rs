@@ -1,10 +1,8 @@
 //! The functions of entry.rt.txt. A slice crosses as a pointer and a length.
 
-use std::sync::OnceLock;
-use std::time::Instant;
-
 mod raw {
     unsafe extern "C" {
+        pub fn port_render(tape: *const u8, n: usize, out: *mut u8, m: usize) -> usize;
         pub fn port_fill(row: *mut f32, n: usize, pool: *const f32, k: usize, kind: u64);
         pub fn port_fade(
             row: *mut f32,
@@ -78,11 +76,9 @@ mod raw {
     }
 }
 
-/// The clock of both sides, in nanoseconds.
-#[unsafe(no_mangle)]
-pub extern "C" fn bench_now() -> u64 {
-    static START: OnceLock<Instant> = OnceLock::new();
-    START.get_or_init(Instant::now).elapsed().as_nanos() as u64
+/// A tape through the C entry; the count of bytes written.
+pub fn render(tape: &[u8], out: &mut [u8]) -> usize {
+    unsafe { raw::port_render(tape.as_ptr(), tape.len(), out.as_mut_ptr(), out.len()) }
 }
 
 pub fn fill(row: &mut [f32], pool: &[f32], kind: u64) {

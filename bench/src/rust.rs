@@ -1,12 +1,12 @@
 //! The Rust side: the original's loops, the standard library's heap, a monotonic deque and the original's engine.
 
+use crate::clock::bench_now;
 use crate::original::audiounit::AudioUnit;
 use crate::original::buffer::{BufferMut, BufferRef, BufferVec};
 use crate::original::math::{sine_ease, smooth5};
 use crate::original::sequencer::{Fade, ReplayMode, Sequencer};
 use crate::original::shared::set_next_id;
 use crate::original::{F32x, SIMD_M, SIMD_S};
-use crate::port::bench_now;
 use crate::units::unit;
 use std::cmp::Ordering;
 use std::collections::{BinaryHeap, VecDeque};

@@ -1,4 +1,5 @@
 //! The three sources as audio units of the original, written for speed: a source is looked at once a block, and whole runs are filled and copied.
+//! The gain of Paper 5 is the unit's own business: one of 1.0 leaves the samples alone, another is multiplied onto them.
 //! (The oracle's own units go sample by sample, and take the pool from a thread-local.)
 
 use crate::call::Source;
@@ -10,6 +11,7 @@ use std::sync::Arc;
 #[derive(Clone)]
 struct Unit<S> {
     signal: S,
+    gain: f32,
     outputs: usize,
 }
 
@@ -97,12 +99,22 @@ impl<S: Signal> AudioUnit for Unit<S> {
     }
 
     fn tick(&mut self, _input: &[f32], output: &mut [f32]) {
-        output.fill(self.signal.next());
+        let sample = self.signal.next();
+        output.fill(if self.gain == 1.0 {
+            sample
+        } else {
+            sample * self.gain
+        });
     }
 
     fn process(&mut self, size: usize, _input: &BufferRef, output: &mut BufferMut) {
         let first = &mut output.channel_f32_mut(0)[..size];
         self.signal.run(first);
+        if self.gain != 1.0 {
+            for x in &mut *first {
+                *x *= self.gain;
+            }
+        }
         for channel in 1..self.outputs {
             output.channel_f32_mut(channel)[..size].copy_from_slice(first);
         }
@@ -129,34 +141,53 @@ impl<S: Signal> AudioUnit for Unit<S> {
     }
 }
 
-/// The source that entry.rt.txt makes of the same numbers.
-pub fn unit(kind: u64, at: usize, pool: &Arc<[f32]>, outputs: usize) -> Box<dyn AudioUnit> {
-    match kind {
-        0 => Box::new(Unit {
-            signal: Held(0.25),
+/// The unit of a source with its gain.
+pub fn unit_of(source: Source, gain: f32, pool: &Arc<[f32]>, outputs: usize) -> Box<dyn AudioUnit> {
+    match source {
+        Source::Held { level } => Box::new(Unit {
+            signal: Held(level),
+            gain,
             outputs,
         }),
-        1 => Box::new(Unit {
+        Source::Ramp { value, step } => Box::new(Unit {
             signal: Ramp {
-                value: 0.25,
-                step: 0.0000001,
-                current: 0.25,
+                value,
+                step,
+                current: value,
             },
+            gain,
             outputs,
         }),
-        _ => Box::new(Unit {
+        Source::Clip { offset, length } => Box::new(Unit {
             signal: Clip {
                 pool: pool.clone(),
-                offset: at,
-                length: 4000000,
+                offset: offset as usize,
+                length: length as usize,
                 place: 0,
             },
+            gain,
             outputs,
         }),
     }
 }
 
+/// The source that entry.rt.txt makes of the same numbers.
+pub fn unit(kind: u64, at: usize, pool: &Arc<[f32]>, outputs: usize) -> Box<dyn AudioUnit> {
+    let source = match kind {
+        0 => Source::Held { level: 0.25 },
+        1 => Source::Ramp {
+            value: 0.25,
+            step: 0.0000001,
+        },
+        _ => Source::Clip {
+            offset: at as u32,
+            length: 4000000,
+        },
+    };
+    unit_of(source, 1.0, pool, outputs)
+}
+
 /// The vendored view of the state asks for this; no benchmark does.
-pub fn place(_unit: &dyn AudioUnit) -> (Source, f32, u32) {
+pub fn place(_unit: &dyn AudioUnit) -> (Source, f32, f32, u32) {
     unreachable!("no benchmark looks at the state")
 }

@@ -1,0 +1,172 @@
+//! The tapes, always the same. But for `music` with gains all gains are 1.0.
+
+use crate::call::{Call, Curve, Edit, Mode, Push, PushKind, Source, Timing};
+use oracle::generate::random::Random;
+use oracle::generate::{Gains, PROFILES, Profile, generate};
+use oracle::tape::{self, Format};
+
+const RATE: f64 = 44_100.0;
+/// The bytes of a record 00.
+const CREATION: usize = 11;
+
+struct Writer {
+    tape: Vec<u8>,
+    random: Random,
+    /// The next number.
+    next: u64,
+}
+
+impl Writer {
+    /// In mode None, so that events that have finished are let go.
+    fn new(channels: u8) -> Self {
+        let mut writer = Self {
+            tape: Vec::new(),
+            random: Random::new(1),
+            next: 1,
+        };
+        writer.put(Call::Create {
+            channels,
+            mode: Mode::None,
+            first: 1,
+        });
+        writer
+    }
+
+    fn put(&mut self, call: Call) {
+        tape::write(&mut self.tape, &call);
+    }
+
+    /// So many samples, in seconds.
+    fn seconds(&mut self, (fewest, most): (i64, i64)) -> f64 {
+        self.random.between(fewest, most) as f64 / RATE
+    }
+
+    /// A clip, or now and then a ramp or a held level, that waits and lasts so many samples; it fades for so many parts of that.
+    fn push(&mut self, wait: (i64, i64), length: (i64, i64), fade: f64, gains: bool) {
+        let (start, length) = (self.seconds(wait), self.seconds(length));
+        let offset = self.random.below(2048) as u32;
+        let source = match self.random.below(8) {
+            0 => Source::Held { level: 0.25 },
+            1 => Source::Ramp {
+                value: 0.25,
+                step: 0.00001,
+            },
+            _ => Source::Clip {
+                offset,
+                length: 2048,
+            },
+        };
+        let gain = self.random.between(1, 7) as f32 / 8.0;
+        let push = Push {
+            start,
+            end: start + length,
+            fade_in: length * fade,
+            fade_out: length * fade,
+            curve: self.random.pick(&[Curve::Power, Curve::Smooth]),
+            source,
+            written_gain: gains.then_some(gain),
+        };
+        self.put(Call::Push(PushKind::Relative, push, 0));
+        self.next += 1;
+    }
+
+    fn edit(&mut self, number: u64) {
+        let edit = Edit {
+            number,
+            end: self.seconds((0, 600)),
+            fade_out: self.seconds((0, 64)),
+        };
+        self.put(Call::Edit(Timing::Relative, edit));
+    }
+}
+
+/// Three blocks of 64 after each push; about 13 clips sound, each with a fade of a fifth of its length at both ends.
+pub fn music(channels: u8, gains: bool, pushes: usize) -> Vec<u8> {
+    let mut writer = Writer::new(channels);
+    for _ in 0..pushes {
+        writer.push((0, 192), (500, 4500), 0.2, gains);
+        for _ in 0..3 {
+            writer.put(Call::Block(64));
+        }
+    }
+    writer.tape
+}
+
+/// 40 ticks after each push; about ten clips sound, every other one fades.
+pub fn ticks() -> Vec<u8> {
+    let mut writer = Writer::new(1);
+    for push in 0..250 {
+        let fade = [0.0, 0.2][push % 2];
+        writer.push((0, 40), (100, 700), fade, false);
+        for _ in 0..40 {
+            writer.put(Call::Tick);
+        }
+    }
+    writer.tape
+}
+
+/// 48 clips start in each block of 64, and as many finish.
+pub fn dense() -> Vec<u8> {
+    let mut writer = Writer::new(1);
+    for _ in 0..100 {
+        for _ in 0..48 {
+            writer.push((0, 63), (64, 192), 0.2, false);
+        }
+        writer.put(Call::Block(64));
+    }
+    writer.tape
+}
+
+/// With each push and block: an edit of the pushed clip, which waits, one of a clip that sounds, and one of any of the last 20, which may
+/// have finished: such an edit stays stored up to the reset after each 100 blocks.
+pub fn edits() -> Vec<u8> {
+    let mut writer = Writer::new(1);
+    for _ in 0..10 {
+        for _ in 0..100 {
+            writer.push((64, 256), (400, 1000), 0.2, false);
+            let newest = writer.next - 1;
+            for earlier in [0, writer.random.below(5) + 4, writer.random.below(20)] {
+                writer.edit(newest.saturating_sub(earlier));
+            }
+            writer.put(Call::Block(64));
+        }
+        writer.put(Call::Reset);
+    }
+    writer.tape
+}
+
+/// Random tapes of the oracle's profiles as one tape: our creation, then each tape without its record 00. A profile gives whole tapes
+/// up to so many records.
+fn joined<'a>(profiles: impl Iterator<Item = &'a Profile>, records: usize) -> Vec<u8> {
+    let mut tape = Writer::new(1).tape;
+    for profile in profiles {
+        let (mut given, mut seed) = (0, 0);
+        while given < records {
+            let random = generate(profile, seed);
+            given += count(&random);
+            seed += 1;
+            tape.extend_from_slice(&random[CREATION..]);
+        }
+    }
+    tape
+}
+
+/// Blocks of all sizes.
+pub fn blocks() -> Vec<u8> {
+    joined(PROFILES.iter().filter(|p| p.name == "blocks"), 8_000)
+}
+
+/// All profiles of whole tapes with gains of 1.0.
+pub fn mix(records: usize) -> Vec<u8> {
+    let plain = |p: &&Profile| {
+        p.format == Format::Tape && !p.damaged && matches!(p.gains, Gains::None | Gains::One)
+    };
+    joined(PROFILES.iter().filter(plain), records)
+}
+
+/// How many records a tape has.
+pub fn count(tape: &[u8]) -> usize {
+    let (calls, stop) = tape::records(Format::Tape, tape);
+    assert!(stop.is_none(), "the tape stops");
+    calls.len()
+}
