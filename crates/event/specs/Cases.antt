@@ -14,7 +14,7 @@ use Rattle.event.specs.StartsFirst.{startBits}
 use Rattle.event.specs.Fades.{curve}
 use Rattle.event.specs.Numbers.{modeNumber, curveNumber, sourceNumber, firstWord, secondWord}
 use Rattle.event.specs.Runs.{made, steps}
-use Rattle.event.specs.Sources.{atStart, advanced, given, advancedBy}
+use Rattle.event.specs.Sources.{atStart, advanced, nextSamples, advancedBy}
 use Rattle.floats.specs.Arithmetic.{zeroᶠ, oneᶠ, halfᶠ}
 use Rattle.floats.specs.Floats.{totalLess, negative}
 use Rattle.floats.specs.Sooner.{sooner}
@@ -31,16 +31,16 @@ quarter = fin false 1 (negsuc 1)
 -- ---- sources
 
 -- "Held: one f32. Ramp: gives its value, then adds its step in f32."
-pub held-gives : given [] (atStart (Held 3ᶠ)) 3 ≡ 3ᶠ ∷ 3ᶠ ∷ 3ᶠ ∷ []
+pub held-gives : nextSamples [] (atStart (Held 3ᶠ)) 3 ≡ 3ᶠ ∷ 3ᶠ ∷ 3ᶠ ∷ []
 unfolding made
 held-gives = refl
 
-pub ramp-gives : given [] (atStart (Ramp 2ᶠ halfᶠ)) 3 ≡ 2ᶠ ∷ fin false 5 (negsuc 0) ∷ 3ᶠ ∷ []
+pub ramp-gives : nextSamples [] (atStart (Ramp 2ᶠ halfᶠ)) 3 ≡ 2ᶠ ∷ fin false 5 (negsuc 0) ∷ 3ᶠ ∷ []
 unfolding made add round
 ramp-gives = refl
 
 -- 1 + 2 ^ -24 is a tie in f32 and goes to 1; in f64 it would not.
-pub ramp-rounds : given [] (atStart (Ramp oneᶠ (fin false 1 (negsuc 23)))) 3 ≡ oneᶠ ∷ oneᶠ ∷ oneᶠ ∷ []
+pub ramp-rounds : nextSamples [] (atStart (Ramp oneᶠ (fin false 1 (negsuc 23)))) 3 ≡ oneᶠ ∷ oneᶠ ∷ oneᶠ ∷ []
 unfolding made add round
 ramp-rounds = refl
 
@@ -48,11 +48,11 @@ ramp-rounds = refl
 abbrev pool : List Float
 pool = quarter ∷ halfᶠ ∷ 2ᶠ ∷ []
 
-pub clip-gives : given pool (atStart (Clip 1 1)) 3 ≡ halfᶠ ∷ zeroᶠ ∷ zeroᶠ ∷ []
+pub clip-gives : nextSamples pool (atStart (Clip 1 1)) 3 ≡ halfᶠ ∷ zeroᶠ ∷ zeroᶠ ∷ []
 unfolding made
 clip-gives = refl
 
-pub clip-past-pool : given pool (atStart (Clip 1 3)) 4 ≡ halfᶠ ∷ 2ᶠ ∷ zeroᶠ ∷ zeroᶠ ∷ []
+pub clip-past-pool : nextSamples pool (atStart (Clip 1 3)) 4 ≡ halfᶠ ∷ 2ᶠ ∷ zeroᶠ ∷ zeroᶠ ∷ []
 unfolding made
 clip-past-pool = refl
 

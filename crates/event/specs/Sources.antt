@@ -40,8 +40,8 @@ abbrev pub advanced : Unit → Unit
 advanced u = advancedAt (u .source) u
 
 -- ---- the next k samples, and the unit after them
-abbrev pub given : List Float → Unit → ℕ → List Float
-given pool u k = made (sampleOf pool) advanced u k
+abbrev pub nextSamples : List Float → Unit → ℕ → List Float
+nextSamples pool u k = made (sampleOf pool) advanced u k
 
 abbrev pub advancedBy : Unit → ℕ → Unit
 advancedBy u k = steps advanced u k

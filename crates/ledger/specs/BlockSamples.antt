@@ -14,7 +14,7 @@ use Rattle.event.specs.declared.Fade.{Fade}
 use Rattle.event.specs.Events.{withUnit}
 use Rattle.event.specs.Fades.{curve}
 use Rattle.event.specs.Runs.{made, steps}
-use Rattle.event.specs.Sources.{given, advancedBy}
+use Rattle.event.specs.Sources.{nextSamples, advancedBy}
 
 -- A block of n samples from clock t up to e, at rate r and sample duration d
 pub record Span : Type 0 where
@@ -89,7 +89,7 @@ gained g l = map (λ x. x ×ˢ g) l
 
 -- the source's z - s samples at the event's gain, with both fades
 abbrev pub fadedRun : (pool : List Float) → Span → (s z : ℕ) → Event → List Float
-fadedRun pool b s z e = runFadedOut b s z e (runFadedIn b s z e (gained (e .gain) (given pool (e .unit) (z - s))))
+fadedRun pool b s z e = runFadedOut b s z e (runFadedIn b s z e (gained (e .gain) (nextSamples pool (e .unit) (z - s))))
 
 -- ---- One event. If z > s its run is added to the channel at s + k, the scratch holds the run, and the source has moved on by z - s.
 

@@ -116,7 +116,8 @@ unfolding run fresh pushes
 full-in-checking-order = refl
 
 -- ---- 8. "An edit's end or fade breaks 3's limits": the end as given, for a relative edit too (t is 0.125).
-pub refusal-8 : answersTo (one-tick ∷ edit absoluteEnd 7 limit limit ∷ edit absoluteEnd 7 +∞ (neg limit) ∷ edit relativeEnd 7 limit zeroᶠ ∷ edit absoluteEnd 7 above zeroᶠ ∷ edit absoluteEnd 7 -∞ zeroᶠ ∷ edit absoluteEnd 7 nan zeroᶠ ∷ edit absoluteEnd 7 oneᶠ above ∷ edit absoluteEnd 7 oneᶠ (neg above) ∷ edit absoluteEnd 7 oneᶠ +∞ ∷ edit absoluteEnd 7 oneᶠ nan ∷ [])
+pub refusal-8 : answersTo (one-tick ∷ edit absoluteEnd 7 limit limit ∷ edit absoluteEnd 7 +∞ (neg limit) ∷ edit relativeEnd 7 limit zeroᶠ ∷ edit absoluteEnd 7 above zeroᶠ
+    ∷ edit absoluteEnd 7 -∞ zeroᶠ ∷ edit absoluteEnd 7 nan zeroᶠ ∷ edit absoluteEnd 7 oneᶠ above ∷ edit absoluteEnd 7 oneᶠ (neg above) ∷ edit absoluteEnd 7 oneᶠ +∞ ∷ edit absoluteEnd 7 oneᶠ nan ∷ [])
     ≡ done ∷ stored ∷ stored ∷ stored ∷ refused 8 ∷ refused 8 ∷ refused 8 ∷ refused 8 ∷ refused 8 ∷ refused 8 ∷ refused 8 ∷ []
 unfolding answersTo neg
 refusal-8 = refl
@@ -139,7 +140,8 @@ unfoldable pub stereo : List Call → List Reply
 unfolding run fresh
 stereo cs = run cs (fresh 2 All 1) .replies
 
-pub refusal-10 : answersOf (stereo (tickInto 2 ∷ tickInto 1 ∷ tickInto 3 ∷ blockInto 1 128 none ∷ blockInto 1 127 none ∷ blockInto 1 64 none ∷ blockInto 1 129 none ∷ blockInto 1 128 (some (replicate 64 halfᶠ)) ∷ blockInto 1 128 (some (replicate 63 halfᶠ)) ∷ blockInto 1 128 (some (replicate 128 halfᶠ)) ∷ blockInto 1 128 (some []) ∷ blockInto 65 127 none ∷ blockInto 65 128 (some (replicate 128 halfᶠ)) ∷ []))
+pub refusal-10 : answersOf (stereo (tickInto 2 ∷ tickInto 1 ∷ tickInto 3 ∷ blockInto 1 128 none ∷ blockInto 1 127 none ∷ blockInto 1 64 none ∷ blockInto 1 129 none
+    ∷ blockInto 1 128 (some (replicate 64 halfᶠ)) ∷ blockInto 1 128 (some (replicate 63 halfᶠ)) ∷ blockInto 1 128 (some (replicate 128 halfᶠ)) ∷ blockInto 1 128 (some []) ∷ blockInto 65 127 none ∷ blockInto 65 128 (some (replicate 128 halfᶠ)) ∷ []))
     ≡ done ∷ refused 10 ∷ refused 10 ∷ places 0 0 0 ∷ refused 10 ∷ refused 10 ∷ refused 10 ∷ places 0 0 0 ∷ refused 10 ∷ refused 10 ∷ refused 10 ∷ refused 10 ∷ refused 10 ∷ []
 unfolding stereo
 refusal-10 = refl

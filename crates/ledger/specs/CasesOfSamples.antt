@@ -108,7 +108,9 @@ sources-moved = (refl, refl, refl, refl)
 -- "If z > s": an event that ends where it starts gives nothing; its ramp stays and the scratch keeps the run before.
 pub nothing-given :
     let cs : List Call = level oneᶠ ∷ playing quarter quarter (Ramp oneᶠ oneᶠ) ∷ [] in
-    (take 4 (lastOut (repliesOf (cs ++ (blockOf 4 ∷ [])))) ≡ replicate 4 oneᶠ) × (valuesOf (ledgerOf (cs ++ (blockOf 4 ∷ [])) .sounding) ≡ oneᶠ ∷ oneᶠ ∷ []) × (lastReply (repliesOf (cs ++ (block 4 [] (lent 64) (some (lent 64)) ∷ []))) ≡ some (record { answer = places 2 0 2; out = replicate 4 oneᶠ ++ (replicate 4 zeroᶠ ++ lent 56); scratch = some (replicate 4 oneᶠ ++ lent 60); filled = 4 }))
+    (take 4 (lastOut (repliesOf (cs ++ (blockOf 4 ∷ [])))) ≡ replicate 4 oneᶠ)
+    × (valuesOf (ledgerOf (cs ++ (blockOf 4 ∷ [])) .sounding) ≡ oneᶠ ∷ oneᶠ ∷ [])
+    × (lastReply (repliesOf (cs ++ (block 4 [] (lent 64) (some (lent 64)) ∷ []))) ≡ some (record { answer = places 2 0 2; out = replicate 4 oneᶠ ++ (replicate 4 zeroᶠ ++ lent 56); scratch = some (replicate 4 oneᶠ ++ lent 60); filled = 4 }))
 unfolding repliesOf ledgerOf
 nothing-given = (refl, refl, refl)
 

@@ -14,7 +14,7 @@ use Rattle.event.specs.declared.Event.{Event}
 use Rattle.event.specs.declared.Fade.{Fade}
 use Rattle.event.specs.Fades.{curve}
 use Rattle.event.specs.Runs.{steps, length-made, getD-in}
-use Rattle.event.specs.Sources.{given, sampleOf, advanced}
+use Rattle.event.specs.Sources.{nextSamples, sampleOf, advanced}
 use Rattle.ledger.specs.BlockSamples.{Span, fadedAll, faded, fadeInPlace, fadeOutPlace, phaseAt, phaseStep, gained, runFadedIn, runFadedOut, fadedRun}
 
 -- ---- what the fades make of a sample x at block place p, of a clip that begins at block place s and ends before z
@@ -205,15 +205,15 @@ module _ (b : Span) (s z : ℕ) (e : Event) (l : List Float) where
 -- a run has z - s samples
 pub length-faded-run : (pool : List Float) (b : Span) (s z : ℕ) (e : Event) → length (fadedRun pool b s z e) ≡ z - s
 length-faded-run pool b s z e =
-    let us : List Float = given pool (e .unit) (z - s) in
+    let us : List Float = nextSamples pool (e .unit) (z - s) in
     let xs : List Float = gained (e .gain) us in
     length-faded-out b s z e (runFadedIn b s z e xs) ∙ length-faded-in b s z e xs ∙ length-map us (λ x. x ×ˢ e .gain) ∙ length-made (sampleOf pool) advanced (e .unit) (z - s)
 
 -- The sample at scratch place k, which is block place s + k: the source's times the gain (Paper 5), then the fades.
 pub fades-by-place : (pool : List Float) (b : Span) (s z : ℕ) (e : Event) (k : ℕ) → s + k < z
-    → getD (fadedRun pool b s z e) k zeroᶠ ≡ fadedOutAt b s (s + k) e (fadedInAt b s z (s + k) e (getD (given pool (e .unit) (z - s)) k zeroᶠ ×ˢ e .gain))
+    → getD (fadedRun pool b s z e) k zeroᶠ ≡ fadedOutAt b s (s + k) e (fadedInAt b s z (s + k) e (getD (nextSamples pool (e .unit) (z - s)) k zeroᶠ ×ˢ e .gain))
 fades-by-place pool b s z e k h =
-    let us : List Float = given pool (e .unit) (z - s) in
+    let us : List Float = nextSamples pool (e .unit) (z - s) in
     let at : Float → Float = λ x. x ×ˢ e .gain in
     let xs : List Float = gained (e .gain) us in
     let n : k < length xs = omega (arith, length-map us at, length-made (sampleOf pool) advanced (e .unit) (z - s)) in

@@ -14,7 +14,7 @@ use Rattle.event.specs.declared.Source.{Source}
 use Rattle.event.specs.declared.Source.the-variants.{Held, Ramp, Clip}
 use Rattle.event.specs.declared.Unit as Declared
 use Rattle.event.specs.Runs.{made}
-use Rattle.event.specs.Sources.{sampleAt, sampleOf, advancedAt, advanced, given}
+use Rattle.event.specs.Sources.{sampleAt, sampleOf, advancedAt, advanced, nextSamples}
 use Rattle.ledger.specs.TickSamples as Tick
 use Rattle.ledger.specs.TickSamples.{fadedIn, fadedOut, afterTick, TickSum}
 use Rattle.ledger.specs.BlockSamples as Block
@@ -32,7 +32,7 @@ tickSum pool t (e ∷ s) out =
     record { out = r .out; events = afterTick e ∷ r .events }
 
 abbrev pub fadedRun : (pool : List Float) → Span → (s z : ℕ) → Event → List Float
-fadedRun pool b s z e = runFadedOut b s z e (runFadedIn b s z e (given pool (e .unit) (z - s)))
+fadedRun pool b s z e = runFadedOut b s z e (runFadedIn b s z e (nextSamples pool (e .unit) (z - s)))
 
 unfoldable pub channelAfter : (pool : List Float) → Span → Event → (channel : List Float) → List Float
 channelAfter pool b e channel =
@@ -111,7 +111,7 @@ module _ (pool : List Float) (f32s : AllSingle pool) where
   sample-at-one : (u : Declared.Unit) → SingleUnit u → sampleOf pool u ×ˢ oneᶠ ≡ sampleOf pool u
   sample-at-one u h = times-one binary32 (sampleOf pool u) (sample-single (u .source) (u .value) (u .place) h)
 
-  run-at-one : (u : Declared.Unit) (k : ℕ) → SingleUnit u → gained oneᶠ (given pool u k) ≡ given pool u k
+  run-at-one : (u : Declared.Unit) (k : ℕ) → SingleUnit u → gained oneᶠ (nextSamples pool u k) ≡ nextSamples pool u k
   unfolding made
   run-at-one u zero h = refl
   run-at-one u (suc k) h = rw (sample-at-one u h, run-at-one (advanced u) k (advanced-single u h))
@@ -123,7 +123,7 @@ module _ (pool : List Float) (f32s : AllSingle pool) where
 
   faded-at-one : (b : Span) (s z : ℕ) (e : Event) → AtOne e → Block.fadedRun pool b s z e ≡ fadedRun pool b s z e
   faded-at-one b s z e h =
-      ap (λ (g : Float). runFadedOut b s z e (runFadedIn b s z e (gained g (given pool (e .unit) (z - s))))) (h .0)
+      ap (λ (g : Float). runFadedOut b s z e (runFadedIn b s z e (gained g (nextSamples pool (e .unit) (z - s))))) (h .0)
       ∙ ap (λ (l : List Float). runFadedOut b s z e (runFadedIn b s z e l)) (run-at-one (e .unit) (z - s) (h .1))
 
   channel-at-one : (b : Span) (e : Event) (channel : List Float) → AtOne e → Block.channelAfter pool b e channel ≡ channelAfter pool b e channel

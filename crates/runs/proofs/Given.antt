@@ -14,7 +14,7 @@ use Rattle.event.specs.declared.Unit.{Unit}
 use Rattle.event.specs.declared.Source.{Source}
 use Rattle.event.specs.declared.Source.the-variants.{Held, Ramp, Clip}
 use Rattle.event.specs.Runs.{made, steps}
-use Rattle.event.specs.Sources.{sampleOf, advanced, given, advancedBy}
+use Rattle.event.specs.Sources.{sampleOf, advanced, nextSamples, advancedBy}
 use Rattle.floats.specs.Arithmetic.{_+ˢ_, zeroᶠ}
 use Rattle.runs.specs.Samples.{chain, clipHas, clipRun}
 
@@ -118,14 +118,14 @@ place-either s v p false = refl
 
 module _ (pool : List Float) (u : Unit) where
   module _ (level : Float) (e : u .source ≡ Held level) where
-    pub held-given : (k : ℕ) → given pool u k ≡ replicate k level
+    pub held-given : (k : ℕ) → nextSamples pool u k ≡ replicate k level
     held-given k = made-along (sampleOf pool) advanced (λ (r : ℕ). level) (λ r. r) (λ r. u) (λ r. rw e) (λ r. rw e) 0 k ∙ made-same level 0 k
 
     pub held-after : (k : ℕ) → advancedBy u k ≡ u
     held-after k = steps-along (sampleOf pool) advanced (λ (r : ℕ). level) (λ r. r) (λ r. u) (λ r. rw e) (λ r. rw e) 0 k
 
   module _ (first step : Float) (e : u .source ≡ Ramp first step) where
-    pub ramp-given : (k : ℕ) → given pool u k ≡ chain step (u .value) k
+    pub ramp-given : (k : ℕ) → nextSamples pool u k ≡ chain step (u .value) k
     ramp-given k = made-along (sampleOf pool) advanced (λ y. y) (λ y. y +ˢ step) (λ y. unitAt (u .source) y (u .place)) (λ y. rw e) (λ y. rw e) (u .value) k
 
     pub ramp-after : (k : ℕ) → advancedBy u k ≡ unitAt (u .source) (steps (λ y. y +ˢ step) (u .value) k) (u .place)
@@ -135,7 +135,7 @@ module _ (pool : List Float) (u : Unit) where
     moves : (p : ℕ) → advanced (unitAt (u .source) (u .value) p) ≡ unitAt (u .source) (u .value) (clipPlace length p)
     moves p = rw e (place-either (Clip offset length) (u .value) p (ltb p length))
 
-    pub clip-given : (k : ℕ) → given pool u k ≡ clipRun pool offset length (u .place) k
+    pub clip-given : (k : ℕ) → nextSamples pool u k ≡ clipRun pool offset length (u .place) k
     clip-given k =
         made-along (sampleOf pool) advanced (clipGives pool offset length) (clipPlace length) (unitAt (u .source) (u .value)) (λ p. rw e) moves (u .place) k
         ∙ clip-run pool offset length k (u .place)

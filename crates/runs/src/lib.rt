@@ -6,7 +6,7 @@ ghost use mathlib.Core.List.{map, _++_};
 ghost use lib.ListN as List;
 ghost use lib.ListN.{length, take, drop, replicate};
 ghost use Rattle.event.specs.Runs.{steps};
-ghost use Rattle.event.specs.Sources.{given, advancedBy};
+ghost use Rattle.event.specs.Sources.{nextSamples, advancedBy};
 ghost use Rattle.floats.specs.Arithmetic.{_+ˢ_, _-ˢ_, zeroᶠ, oneᶠ};
 ghost use Rattle.ledger.specs.BlockSamples.{gained, fadedAll, faded, addAt, overlay};
 ghost use Rattle.runs.specs.Walk.{zipped};
@@ -92,7 +92,7 @@ fn clip(s: &mut [f32], pool: &[f32], offset: u32, length: u32, place: u32) -> u3
 
 // The source's next samples, as many as the slice has, and the unit after them.
 pub fn fill_run(s: &mut [f32], unit: Unit, pool: &[f32]) -> Unit
-    ensures { λ r. ⌜ (now (s .exit) ≡ given (now (pool .entry)) unit (length (now (s .entry)))) × (r ≡ advancedBy unit (length (now (s .entry)))) ⌝ }
+    ensures { λ r. ⌜ (now (s .exit) ≡ nextSamples (now (pool .entry)) unit (length (now (s .entry)))) × (r ≡ advancedBy unit (length (now (s .entry)))) ⌝ }
 {
     let mut after = unit;
     let source = unit.source;

@@ -17,7 +17,7 @@ use Rattle.tape.specs.declared.reader.EditRecord.{EditRecord}
 use Rattle.tape.specs.declared.reader.Read.{Read}
 use Rattle.tape.specs.declared.reader.Read.the-variants.{Record, Refused}
 use Rattle.tape.specs.declared.reader.Call.the-variants.{Create, Push, PushRelative, PushDuration, Edit, EditRelative, Tick, Process, Reset, SetSampleRate}
-use Rattle.tape.specs.Fields.{field, le}
+use Rattle.tape.specs.Fields.{field, fromLittleEndian}
 use Rattle.tape.specs.Tape.{readAt, recordOf, callOf, pushOf, editOf, sourceOf, unknown, pushKind, sizeOf, sizes}
 
 abbrev zeros : ℕ → List ℕ
@@ -25,11 +25,11 @@ zeros n = replicate n 0
 
 -- the first record of a tape, and one at place 0 that is not the first
 unfoldable pub first : List ℕ → Read
-unfolding readAt recordOf unknown pushKind sizeOf sizes callOf pushOf editOf sourceOf field le ofBits
+unfolding readAt recordOf unknown pushKind sizeOf sizes callOf pushOf editOf sourceOf field fromLittleEndian ofBits
 first bs = readAt bs (record { at = 0; first = true })
 
 unfoldable pub later : List ℕ → Read
-unfolding readAt recordOf unknown pushKind sizeOf sizes callOf pushOf editOf sourceOf field le ofBits
+unfolding readAt recordOf unknown pushKind sizeOf sizes callOf pushOf editOf sourceOf field fromLittleEndian ofBits
 later bs = readAt bs (record { at = 0; first = false })
 
 abbrev at : ℕ → Cursor

@@ -12,7 +12,7 @@ use Rattle.tape.specs.declared.reader.Cursor.{Cursor}
 use Rattle.tape.specs.declared.reader.Read.{Read}
 use Rattle.tape.specs.declared.reader.Read.the-variants.{Record, Refused, End}
 use Rattle.tape.specs.declared.reader.Call.the-variants.{Create, Push, Tick, Process, SetSampleRate}
-use Rattle.tape.specs.Fields.{field, le}
+use Rattle.tape.specs.Fields.{field, fromLittleEndian}
 use Rattle.tape.specs.Tape.{readAt, recordOf, callOf, pushOf, sourceOf, unknown, pushKind, sizeOf, sizes}
 
 -- 00 01 00 0100000000000000
@@ -40,11 +40,11 @@ abbrev zero64 : Float
 zero64 = fin false 0 (pos 0)
 
 pub reads-creation : readAt example (record { at = 0; first = true }) ≡ Record 0x00 (Create 1 All 1) (at 11)
-unfolding readAt recordOf unknown sizeOf sizes callOf field le
+unfolding readAt recordOf unknown sizeOf sizes callOf field fromLittleEndian
 reads-creation = refl
 
 pub reads-rate : readAt example (at 11) ≡ Record 0x09 (SetSampleRate (fin false 1 (pos 3))) (at 20)
-unfolding readAt recordOf unknown pushKind sizeOf sizes callOf field le ofBits
+unfolding readAt recordOf unknown pushKind sizeOf sizes callOf field fromLittleEndian ofBits
 reads-rate = refl
 
 pub reads-push : readAt example (at 20) ≡ Record 0x01 (Push (record {
@@ -56,7 +56,7 @@ pub reads-push : readAt example (at 20) ≡ Record 0x01 (Push (record {
   source = Held (fin false 1 (pos 0));
   gain = fin false 1 (pos 0);
 })) (at 63)
-unfolding readAt recordOf unknown pushKind sizeOf sizes callOf pushOf sourceOf field le ofBits
+unfolding readAt recordOf unknown pushKind sizeOf sizes callOf pushOf sourceOf field fromLittleEndian ofBits
 reads-push = refl
 
 pub reads-block : readAt example (at 63) ≡ Record 0x07 (Process 2) (at 65)

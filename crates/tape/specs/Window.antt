@@ -8,7 +8,7 @@ use borrow.Author.Tests.{ltb-true, ltb-false, lt-ltb, le-ltb}
 use lib.Dec.{ltb, lit<, lit≤}
 use lib.ListN.{length, getD, take, drop, length-take}
 use lib.Seq.{getD-take, take-take}
-use Rattle.tape.specs.Fields.{field, le}
+use Rattle.tape.specs.Fields.{field, fromLittleEndian}
 use Rattle.tape.specs.declared.reader.Cursor.{Cursor}
 use Rattle.tape.specs.Tape.{kindOf, sizes, sizeOf, unknown, sourceOf, pushOf, editOf, callOf, recordOf, readAt}
 
@@ -40,7 +40,7 @@ module _ (n : ℕ) (h : 47 ≤ n) (bs : List ℕ) where
 
   part : (at w : ℕ) → at + w ≤ 47 → field (take n bs) at w ≡ field bs at w
   unfolding field
-  part at w b = ap le (part-take n at w bs (omega arith))
+  part at w b = ap fromLittleEndian (part-take n at w bs (omega arith))
 
   too-short : (s : ℕ) → s ≤ 47 → ltb (length (take n bs)) s ≡ ltb (length bs) s
   too-short s b = go (ltb (length bs) s) refl

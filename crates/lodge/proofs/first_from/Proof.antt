@@ -22,10 +22,19 @@ loop-holds c =
     (omega arith, omega (arith, g, c .pre), refl)
 
 returns : tie.Need-returns Inv-loop μ-loop
-returns c = rw (c .before .before .before .before .later .ensures) (room _ _ _ _ _ _ (c .before .before .before .before .before .before .loop-test .taken) (c .before .before .before .before .before .before .before .loop .inv .1) (c .before .before .before .before .before .before .before .loop .inv .2) (omega (arith, c .before .before .before .before .later .ensures, c .before .before .if1 .taken, c .if2 .taken)))
+returns c =
+    let b2 = c .before .before in
+    let b4 = b2 .before .before in
+    let b6 = b4 .before .before in
+    let b7 = b6 .before in
+    rw (b4 .later .ensures) (room _ _ _ _ _ _ (b6 .loop-test .taken) (b7 .loop .inv .1) (b7 .loop .inv .2) (omega (arith, b4 .later .ensures, b2 .if1 .taken, c .if2 .taken)))
 
 loop-again : tie.Need-loop-again Inv-loop μ-loop
-loop-again c = (omega arith, c .before .before .before .before .before .loop .inv .1, no-room _ _ _ _ _ _ (c .before .before .before .before .loop-test .taken) (c .before .before .before .before .before .loop .inv .1) (c .before .before .before .before .before .loop .inv .2) (⊎-elim (λ w. omega (arith, c .before .before .later .ensures)) (λ w. omega (arith, c .before .before .later .ensures)) (c .if1 .came)))
+loop-again c =
+    let b2 = c .before .before in
+    let b4 = b2 .before .before in
+    let b5 = b4 .before in
+    (omega arith, b5 .loop .inv .1, no-room _ _ _ _ _ _ (b4 .loop-test .taken) (b5 .loop .inv .1) (b5 .loop .inv .2) (⊎-elim (λ w. omega (arith, b2 .later .ensures)) (λ w. omega (arith, b2 .later .ensures)) (c .if1 .came)))
 
 returns-2 : tie.Need-returns-2 Inv-loop μ-loop
 returns-2 c = nowhere _ _ _ _ _ _ (c .loop-test .left) (c .before .loop .inv .2)

@@ -27,10 +27,20 @@ returns-2 : tie.Need-returns-2 Inv-loop μ-loop
 returns-2 c = empty _ _ _ _ _ (c .before .before .before .before .before .loop-test .taken) (c .before .before .before .before .before .before .loop .inv .1) (c .before .before .before .before .before .before .loop .inv .2) (c .before .before .if1 .left) (c .if2 .taken)
 
 returns-3 : tie.Need-returns-3 Inv-loop μ-loop
-returns-3 c = late _ _ _ _ _ (c .before .before .before .before .before .before .before .loop-test .taken) (c .before .before .before .before .before .before .before .before .loop .inv .1) (c .before .before .before .before .before .before .before .before .loop .inv .2) (c .before .before .before .before .if1 .left) (c .before .before .if2 .left) (c .if3 .taken)
+returns-3 c =
+    let b2 = c .before .before in
+    let b4 = b2 .before .before in
+    let b7 = b4 .before .before .before in
+    let b8 = b7 .before in
+    late _ _ _ _ _ (b7 .loop-test .taken) (b8 .loop .inv .1) (b8 .loop .inv .2) (b4 .if1 .left) (b2 .if2 .left) (c .if3 .taken)
 
 loop-again : tie.Need-loop-again Inv-loop μ-loop
-loop-again c = (omega arith, c .before .before .before .before .before .before .before .before .loop .inv .1, passed _ _ _ _ _ (c .before .before .before .before .before .before .before .loop-test .taken) (c .before .before .before .before .before .before .before .before .loop .inv .1) (c .before .before .before .before .before .before .before .before .loop .inv .2) (c .before .before .before .before .if1 .left) (c .before .before .if2 .left) (c .if3 .left))
+loop-again c =
+    let b2 = c .before .before in
+    let b4 = b2 .before .before in
+    let b7 = b4 .before .before .before in
+    let b8 = b7 .before in
+    (omega arith, b8 .loop .inv .1, passed _ _ _ _ _ (b7 .loop-test .taken) (b8 .loop .inv .1) (b8 .loop .inv .2) (b4 .if1 .left) (b2 .if2 .left) (c .if3 .left))
 
 returns-4 : tie.Need-returns-4 Inv-loop μ-loop
 returns-4 c = all-passed _ _ _ _ _ (c .loop-test .left) (c .before .loop .inv .2)

@@ -15,7 +15,8 @@ returns c =
     let a = c .before .before .before .before .before .before .before .before .before .before .before .args in
     let pool = now (a .pool) in
     let k = List.length (now (a .s)) in
-    let m : c .before .before .before .before .before .least2 .result ≡ clipHas pool (a .offset) (a .length) (a .place) k = rw (c .before .before .before .before .before .least2 .ensures, c .before .before .before .before .before .before .before .least .ensures, c .before .before .before .before .before .before .before .before .minus .ensures, c .before .before .before .before .before .before .minus2 .ensures) in
+    let m : c .before .before .before .before .before .least2 .result ≡ clipHas pool (a .offset) (a .length) (a .place) k =
+    rw (c .before .before .before .before .before .least2 .ensures, c .before .before .before .before .before .before .before .least .ensures, c .before .before .before .before .before .before .before .before .minus .ensures, c .before .before .before .before .before .before .minus2 .ensures) in
     let d = drop-cut (a .offset + a .place) (c .before .before .before .before .least3 .result) pool (c .before .before .before .before .least3 .ensures) in
     (rw (c .before .before .copy-first .ensures, d, m), rw (c .before .before .before .before .before .before .before .least .ensures, c .before .before .before .before .before .before .before .before .minus .ensures))
 

@@ -6,7 +6,11 @@ use Rattle.runs.proofs.fade_by.Statement.{statement}
 use Rattle.runs.proofs.fade_by.Tie as tie
 
 returns : tie.Need-returns
-returns c = rw (c .before .before .shape .ensures, c .before .before .before .before .before .before .before .phases .ensures, ← c .before .before .before .before .before .before .before .before .before .before .before .pre) (two-passes (c .before .before .before .before .before .before .before .before .before .before .before .args .ease) (c .before .before .before .before .before .before .before .before .before .before .before .args .rising) (c .before .before .before .before .before .before .before .before .before .before .before .args .phase) (c .before .before .before .before .before .before .before .before .before .before .before .args .step) (now (c .before .before .before .before .before .before .before .before .before .before .before .args .s)))
+returns c =
+    let b2 = c .before .before in
+    let b7 = b2 .before .before .before .before .before in
+    let b11 = b7 .before .before .before .before in
+    rw (b2 .shape .ensures, b7 .phases .ensures, ← b11 .pre) (two-passes (b11 .args .ease) (b11 .args .rising) (b11 .args .phase) (b11 .args .step) (now (b11 .args .s)))
 
 pub fade-by-spec : {M : Type 1} → statement M
 fade-by-spec =

@@ -9,7 +9,12 @@ returns : tie.Need-returns
 returns c = rw (c .if1 .taken) (c .before .before .before .count-up .ensures .0)
 
 returns-2 : tie.Need-returns-2
-returns-2 c = rw (c .before .before .before .before .if1 .left, c .before .before .flip .ensures, c .before .before .before .before .before .before .before .count-up .ensures .0) (map-made (λ y. oneᶠ -ˢ y) (λ y. y) (λ y. y +ˢ c .before .before .before .before .before .before .before .before .before .before .args .step) (c .before .before .before .before .before .before .before .before .before .before .args .phase) _)
+returns-2 c =
+    let b2 = c .before .before in
+    let b4 = b2 .before .before in
+    let b7 = b4 .before .before .before in
+    let b10 = b7 .before .before .before in
+    rw (b4 .if1 .left, b2 .flip .ensures, b7 .count-up .ensures .0) (map-made (λ y. oneᶠ -ˢ y) (λ y. y) (λ y. y +ˢ b10 .args .step) (b10 .args .phase) _)
 
 pub phases-spec : {M : Type 1} → statement M
 phases-spec =

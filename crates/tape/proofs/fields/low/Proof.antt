@@ -5,12 +5,12 @@ use borrow.Author.Tests.{le-ltb, lt-ltb, le-leb, lt-leb, eq-eqb, ne-eqb}
 use borrow.Author.Needs.{needs}
 use native.Mathlib.Nat.{le-refl}
 use lib.ListN.{length, take, drop, getD}
-use Rattle.tape.specs.Fields.{le, field, none-yet, next-byte, next-fits}
+use Rattle.tape.specs.Fields.{fromLittleEndian, field, none-yet, next-byte, next-fits}
 use Rattle.tape.proofs.fields.low.Statement.{statement}
 use Rattle.tape.proofs.fields.low.Tie as tie
 
 abbrev Inv-loop : tie.InvT-loop
-Inv-loop bs width i₀ n₀ i n = (i ≤ i₀) × ((i₀ ≤ 8) × (n ≡ le (drop i (take i₀ bs))))
+Inv-loop bs width i₀ n₀ i n = (i ≤ i₀) × ((i₀ ≤ 8) × (n ≡ fromLittleEndian (drop i (take i₀ bs))))
 
 abbrev μ-loop : tie.MeasureT-loop
 μ-loop bs width i₀ n₀ i n = i
@@ -29,7 +29,7 @@ loop-again c = (let l = c .before .before .before .loop .inv .0 in omega arith, 
 
 returns : tie.Need-returns Inv-loop μ-loop
 unfolding field
-returns c = let z : c .before .loop .i ≡ 0 = omega (arith, c .loop-test .left) in c .before .loop .inv .1 .1 ∙ ap (λ (k : ℕ). le (drop k (take (c .before .before .least .result) (c .before .before .before .before .args .bs .now)))) z ∙ ap (λ (k : ℕ). le (take k (c .before .before .before .before .args .bs .now))) (c .before .before .least .ensures .0)
+returns c = let z : c .before .loop .i ≡ 0 = omega (arith, c .loop-test .left) in c .before .loop .inv .1 .1 ∙ ap (λ (k : ℕ). fromLittleEndian (drop k (take (c .before .before .least .result) (c .before .before .before .before .args .bs .now)))) z ∙ ap (λ (k : ℕ). fromLittleEndian (take k (c .before .before .before .before .args .bs .now))) (c .before .before .least .ensures .0)
 
 pub low-spec : {M : Type 1} → statement M
 low-spec =
