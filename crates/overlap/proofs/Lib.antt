@@ -1,0 +1,5 @@
+pub mod Sifting
+pub mod Draining
+pub mod Gathering
+pub mod Listing
+pub mod Scanning

@@ -1,0 +1,7 @@
+pub mod Stretch
+pub mod Insertion
+pub mod Keys
+pub mod Draining
+pub mod Reading
+pub mod Theorem
+pub mod Cases
