@@ -12,6 +12,7 @@ mod refusal;
 #[allow(dead_code)]
 mod tape;
 
+mod clips;
 mod clock;
 mod port;
 mod programs;
@@ -420,6 +421,7 @@ fn main() {
             }
         }
     }
+    clips::table();
     head("events that come in, 1 ch, ns an event");
     for n in [16, 256] {
         starts(n, &pool);

@@ -24,6 +24,7 @@ pub mod sheet;
 pub mod shrink;
 pub mod smooth_error;
 pub mod state;
+pub mod stretch;
 pub mod tape;
 pub mod text;
 mod units;

@@ -1,0 +1,168 @@
+// `trail_clips FROM TO < TAPE` plays the first 65,536 bytes of a tape and lists the clips that are then held in the stretch from FROM to TO, and the first waiting event from FROM on (crate overlap).
+// FROM and TO are milliseconds: up to 15 decimal digits or `inf`, with a minus sign or none. Anything else counts as a NaN, which is 17. A failed read counts as the tape's end.
+ghost use Prim.Native.Nat.{_≤_};
+ghost use lib.ListN.{length};
+use event::EventId;
+use overlap::FirstWaiting;
+use overlap::Found;
+use sequencer::Sequencer;
+use tape::reader::Cursor;
+use tape::reader::Read;
+
+// ---- arguments
+
+fn is_infinite(text: &[u8]) -> bool {
+    if text.len() != 3 {
+        return false;
+    }
+    if text[0] != b'i' {
+        return false;
+    }
+    if text[1] != b'n' {
+        return false;
+    }
+    text[2] == b'f'
+}
+
+// Milliseconds as seconds; a NaN where there is no digit, anything but digits, or more than 15 of them.
+fn seconds(text: &[u8]) -> f64 {
+    if is_infinite(text) {
+        return 1.0 / 0.0;
+    }
+    if text.len() == 0 {
+        return 0.0 / 0.0;
+    }
+    if 15 < text.len() {
+        return 0.0 / 0.0;
+    }
+    let mut value = 0.0;
+    let mut i = 0;
+    while i < text.len() {
+        let b = text[i];
+        if b < b'0' {
+            return 0.0 / 0.0;
+        }
+        if b'9' < b {
+            return 0.0 / 0.0;
+        }
+        value = value * 10.0 + std::num::nearest_u64_to_f64((b - b'0') as u64);
+        i = i + 1;
+    }
+    value / 1000.0
+}
+
+fn signed_seconds(text: &[u8]) -> f64 {
+    if 0 < text.len() {
+        if text[0] == b'-' {
+            return -1.0 * seconds(&text[1..]);
+        }
+    }
+    seconds(text)
+}
+
+// Argument i. A missing one, or one that is too long, is empty.
+fn argument(i: usize) -> f64 {
+    let mut text = [0u8; 32];
+    let n = os::arg(i, &mut text);
+    if n <= 32 {
+        signed_seconds(&text[..n])
+    } else {
+        0.0 / 0.0
+    }
+}
+
+// ---- the tape
+
+// The engine after the tape, as far as no record stops it.
+fn play(bytes: &[u8], pool: &[f32]) -> Sequencer {
+    let mut samples = apply::silence();
+    let mut s = apply::start();
+    let mut first = true;
+    let mut at: usize = 0;
+    let mut turns = bytes.len();
+    while turns > 0 {
+        turns = turns - 1;
+        let c = Cursor { at, first };
+        let r = c.read(bytes);
+        let Read::Record {
+            kind: _,
+            call,
+            next,
+        } = r
+        else {
+            return s;
+        };
+        let a = apply::apply(s, call, pool, &mut samples);
+        s = a.sequencer;
+        if a.refusal == 1 {
+            return s;
+        }
+        first = next.first;
+        at = next.at;
+    }
+    s
+}
+
+// ---- what is printed
+
+fn line(n: u64) {
+    io::print_decimal(1, n);
+    io::write_all(1, b"\n");
+}
+
+fn list_numbers(numbers: &[u64], n: usize) {
+    let mut i = 0;
+    while i < n {
+        if numbers.len() <= i {
+            return;
+        }
+        line(numbers[i]);
+        i = i + 1;
+    }
+}
+
+fn list_clips(s: Sequencer, from: f64, to: f64) {
+    let mut numbers = [0u64; 256];
+    let found = overlap::clips(s, from, to, &mut numbers);
+    match found {
+        Found::Clips(n) => {
+            io::write_all(1, b"clips ");
+            line(n as u64);
+            list_numbers(&numbers, n)
+        }
+        Found::Refused(n) => {
+            io::write_all(1, b"clips refused ");
+            line(n)
+        }
+    }
+}
+
+fn list_first(s: Sequencer, time: f64) {
+    let first = overlap::first_from(s, time);
+    match first {
+        FirstWaiting::Number(id) => {
+            io::write_all(1, b"first ");
+            line(id.0)
+        }
+        FirstWaiting::Nothing => {
+            io::write_all(1, b"first none\n");
+        }
+        FirstWaiting::Refused(n) => {
+            io::write_all(1, b"first refused ");
+            line(n)
+        }
+    }
+}
+
+fn main() {
+    let from = argument(1);
+    let to = argument(2);
+    let mut buf = io::large_buffer();
+    let n = io::read_full(0, &mut buf);
+    if n <= 65536 {
+        let pool = tape::pool::trail_pool();
+        let s = play(&buf[..n], &pool);
+        list_clips(s, from, to);
+        list_first(s, from);
+    }
+}
