@@ -57,14 +57,14 @@ pub enum Read {
 }
 
 // Whether a record of this kind has gain bytes.
-fn has_gain(kind: u8) -> bool
+pub fn has_gain(kind: u8) -> bool
     ensures { λ r. ⌜ r ≡ gainKind kind ⌝ }
 {
     if 9 < kind { kind < 13 } else { false }
 }
 
 // The same kind without gain bytes.
-fn plain_kind(kind: u8) -> u8
+pub fn plain_kind(kind: u8) -> u8
     ensures { λ r. ⌜ r ≡ plainKind kind ⌝ }
 {
     if kind < 10 {
@@ -74,7 +74,7 @@ fn plain_kind(kind: u8) -> u8
 }
 
 // Whether a record of this kind is a push, with a curve and a source byte.
-fn is_push(kind: u8) -> bool
+pub fn is_push(kind: u8) -> bool
     ensures { λ r. ⌜ r ≡ pushKind kind ⌝ }
 {
     let k = plain_kind(kind);
@@ -117,7 +117,7 @@ fn is_unknown(first: bool, bs: &[u8]) -> bool
 const SIZES: [usize; 13] = [11, 43, 43, 43, 25, 25, 1, 2, 1, 9, 47, 47, 47];
 
 // A record's length with its kind byte.
-fn size_of(kind: u8) -> usize
+pub fn size_of(kind: u8) -> usize
     ensures { λ r. ⌜ r ≡ sizeOf kind ⌝ }
 {
     let k = kind as usize;

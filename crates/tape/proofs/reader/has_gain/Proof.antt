@@ -1,3 +1,4 @@
+-- `tape::reader::has_gain` meets its contract. Assumes nothing.
 use mathlib.Core.Path.{_≡_}
 use borrow.Author.Tests.{le-ltb, lt-ltb}
 use Rattle.tape.proofs.reader.has_gain.Statement.{statement}
