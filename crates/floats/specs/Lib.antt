@@ -12,3 +12,4 @@ pub mod TotalOrder
 pub mod Cases
 pub mod IndexNearest
 pub mod Sooner
+pub mod Phases

@@ -1,7 +1,9 @@
 // What one event adds to a tick and to a block: `tick`, `process`, `fade_in` and `fade_out` of src/sequencer.rs of fundsp.
 ghost use mathlib.Core.Path.{_≡_};
+ghost use mathlib.Core.Bool.{_&&_};
 ghost use Prim.Native.Nat.{_-_};
 ghost use lib.ListN.{length};
+ghost use Rattle.floats.specs.Arithmetic.{_<ᶠ_, _≤ᶠ_};
 ghost use Rattle.event.specs.Placings.{addAll};
 ghost use Rattle.ledger.specs.TickSamples.{fadedIn, fadedOut, tickSample, afterTick};
 ghost use Rattle.ledger.specs.BlockSamples.{phaseAt, phaseStep, runFadedIn, runFadedOut, fadedRun, addAt, channelAfter};
@@ -18,16 +20,36 @@ use runs::minus;
 
 // ---- a tick
 
-// A sample x with the fade-in.
+// Whether a < b and x is not before b.
+fn is_past(a: f64, b: f64, x: f64) -> bool
+    ensures { λ r. ⌜ r ≡ (a <ᶠ b && b ≤ᶠ x) ⌝ }
+{
+    if a < b {
+        return b <= x;
+    }
+    false
+}
+
+// Whether a < b and x is not after a.
+fn is_ahead(a: f64, b: f64, x: f64) -> bool
+    ensures { λ r. ⌜ r ≡ (a <ᶠ b && x ≤ᶠ a) ⌝ }
+{
+    if a < b {
+        return x <= a;
+    }
+    false
+}
+
+// A sample x with the fade-in. One that is over is left out before its phase is computed.
 fn tick_fade_in(event: Event, time: f64, x: f32) -> f32
     ensures { λ r. ⌜ r ≡ fadedIn time event x ⌝ }
 {
     if event.fade_in > 0.0 {
-        let phase = floats::narrow(math::delerp(
-            event.start_time,
-            event.start_time + event.fade_in,
-            time,
-        ));
+        let top = event.start_time + event.fade_in;
+        if is_past(event.start_time, top, time) {
+            return x;
+        }
+        let phase = floats::narrow(math::delerp(event.start_time, top, time));
         if phase < 1.0 {
             let ease = event.fade_ease;
             return x * ease.at(phase);
@@ -37,16 +59,16 @@ fn tick_fade_in(event: Event, time: f64, x: f32) -> f32
     x
 }
 
-// A sample x with the fade-out.
+// A sample x with the fade-out. One that has not begun is left out before its phase is computed.
 fn tick_fade_out(event: Event, time: f64, x: f32) -> f32
     ensures { λ r. ⌜ r ≡ fadedOut time event x ⌝ }
 {
     if event.fade_out > 0.0 {
-        let phase = floats::narrow(math::delerp(
-            event.end_time - event.fade_out,
-            event.end_time,
-            time,
-        ));
+        let bottom = event.end_time - event.fade_out;
+        if is_ahead(bottom, event.end_time, time) {
+            return x;
+        }
+        let phase = floats::narrow(math::delerp(bottom, event.end_time, time));
         if phase > 0.0 {
             let ease = event.fade_ease;
             return x * ease.at(1.0 - phase);
