@@ -389,7 +389,7 @@ fn main() {
     }
     println!("\n| the preview, ns a sample | table | curve | ratio |\n|---|---:|---:|---:|");
     previews();
-    head("heap of 64-byte events, ns a call");
+    head("heap of events, ns a call");
     for (n, equal) in [(16, false), (256, false), (16, true), (256, true)] {
         heap(n, equal);
     }
