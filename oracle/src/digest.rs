@@ -36,7 +36,7 @@ pub fn line(
         Some(Places { kept, forced, edge }) => format!("rendered:{kept}:{forced}:{edge}"),
         None => answer_text(answer),
     };
-    write!(out, "{kind:02x} answer={answer}")?;
+    write!(out, "{kind:02X} answer={answer}")?;
     let waiting = unordered(state.waiting.iter().map(event_words));
     let sounding = ordered(state.sounding.iter().flat_map(event_words));
     let finished = ordered(state.finished.iter().flat_map(event_words));
@@ -49,7 +49,7 @@ pub fn line(
         ("edits", state.edits.len(), edits),
         ("index", state.index.len(), index),
     ] {
-        write!(out, " {name}={count}:{digest:016x}")?;
+        write!(out, " {name}={count}:{digest:016X}")?;
     }
     for (name, bits) in [
         ("clock", state.clock),
@@ -57,7 +57,7 @@ pub fn line(
         ("rate", state.rate),
         ("duration", state.duration),
     ] {
-        write!(out, " {name}={bits:016x}")?;
+        write!(out, " {name}={bits:016X}")?;
     }
     let (next, gone) = (state.next, state.let_go);
     write!(out, " channels={channels} next={next} gone={gone}")?;
@@ -65,8 +65,8 @@ pub fn line(
         let messages = ordered(state.messages.iter().flat_map(message_words));
         let returned = ordered(state.returned.iter().copied());
         let (queued, back) = (state.messages.len(), state.returned.len());
-        write!(out, " messages={queued}:{messages:016x}")?;
-        write!(out, " returned={back}:{returned:016x}")?;
+        write!(out, " messages={queued}:{messages:016X}")?;
+        write!(out, " returned={back}:{returned:016X}")?;
     }
     writeln!(out)
 }

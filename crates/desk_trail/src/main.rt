@@ -1,9 +1,12 @@
 // Plays a desk script of at most 65,536 bytes from standard input (oracle/README.md: a tape whose kinds 01 to 05 and 0A to 0C are calls of the front and 06 to 09 of the back, with 10 for the front's reset and 11 to 13 for what is lent).
 // Each record prints its lines as on a tape, then its answer and the whole state of the back and the queues (crate state_listing).
+mod lines;
+
 ghost use Prim.Native.Nat.{_≤_};
 use realseq::Answer;
 use realseq::Outcome;
 use realseq::SequencerBackend;
+use runs::least;
 use sequencer::Counts;
 use sequencer::Sequencer;
 use tape::reader::Call;
@@ -65,15 +68,6 @@ fn sounding(r: Outcome, channels: usize, each: usize, stride: usize) -> Played {
 fn outputs(d: SequencerBackend) -> usize {
     let s = d.sequencer;
     s.outputs
-}
-
-fn least(a: usize, b: usize) -> usize
-    ensures { λ r. ⌜ r ≤ b ⌝ }
-{
-    if a < b {
-        return a;
-    }
-    b
 }
 
 fn tick(d: SequencerBackend, length: usize, pool: &[f32], samples: &mut [f32]) -> Played {
@@ -228,13 +222,13 @@ fn counts(d: SequencerBackend) -> Counts {
 }
 
 fn stop(r: Read, d: SequencerBackend) {
-    listing_out::stop(r, counts(d))
+    lines::stop(r, counts(d))
 }
 
 // Lists an applied record and the state; false where the listing ends there.
 fn list(kind: u8, p: Played, samples: &[f32]) -> bool {
     let d = p.backend;
-    if !listing_out::list(
+    if !lines::list(
         kind,
         p.refusal,
         counts(d),
@@ -246,7 +240,7 @@ fn list(kind: u8, p: Played, samples: &[f32]) -> bool {
         return false;
     }
     let answer = p.answer;
-    state_listing::list_desk(kind, answer, d);
+    lines::list_state(kind, answer, d);
     true
 }
 
@@ -286,7 +280,7 @@ fn run(script: &[u8], whole: &[f32]) {
                 return;
             }
             if script.len() - at < size {
-                listing_out::list_counts(kind, 15, counts(d));
+                lines::list_counts(kind, 15, counts(d));
                 return;
             }
             let bs = &script[at..];

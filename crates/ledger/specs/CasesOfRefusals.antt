@@ -123,7 +123,8 @@ unfolding answersTo neg
 refusal-8 = refl
 
 -- ---- 9. "An edit must be stored, its number has none, and 256 are stored": with 256 stored an edit of a sounding event is applied, one that is past answers so, also by t + end, one that ends at θ, 0.5, must be stored, and 8 comes first.
-pub refusal-9 : drop 259 (answersOf (run (rate oneᶠ ∷ held1 zeroᶠ +∞ zeroᶠ zeroᶠ ∷ one-tick ∷ edits 256 ++ (edit absoluteEnd 500 oneᶠ zeroᶠ ∷ edit absoluteEnd 300 zeroᶠ zeroᶠ ∷ edit relativeEnd 300 (neg oneᶠ) zeroᶠ ∷ edit relativeEnd 300 zeroᶠ zeroᶠ ∷ edit absoluteEnd 300 halfᶠ zeroᶠ ∷ edit absoluteEnd 300 nan zeroᶠ ∷ [])) (fresh 1 All 500) .replies))
+pub refusal-9 : drop 259 (answersOf (run (rate oneᶠ ∷ held1 zeroᶠ +∞ zeroᶠ zeroᶠ ∷ one-tick ∷ edits 256
+    ++ (edit absoluteEnd 500 oneᶠ zeroᶠ ∷ edit absoluteEnd 300 zeroᶠ zeroᶠ ∷ edit relativeEnd 300 (neg oneᶠ) zeroᶠ ∷ edit relativeEnd 300 zeroᶠ zeroᶠ ∷ edit absoluteEnd 300 halfᶠ zeroᶠ ∷ edit absoluteEnd 300 nan zeroᶠ ∷ [])) (fresh 1 All 500) .replies))
     ≡ applied ∷ past ∷ past ∷ refused 9 ∷ refused 9 ∷ refused 8 ∷ []
 unfolding run fresh edits neg
 refusal-9 = refl

@@ -1,3 +1,5 @@
 pub mod Text
 pub mod Putting
+pub mod Pieces
+pub mod Ascii
 pub mod Cases

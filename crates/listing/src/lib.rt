@@ -1,4 +1,6 @@
 // The listing's lines, put at the front of a lent buffer. A buffer too short for the line stays as it is, and the answer is 0.
+pub mod pieces;
+
 ghost use mathlib.Core.Path.{_≡_};
 ghost use mathlib.Core.List.{[], _∷_, _++_};
 ghost use mathlib.Core.Bool.{cond};

@@ -87,7 +87,9 @@ unfolding later
 edit-records = (refl, refl)
 
 -- "00: channels, mode (0 All, 1 None), first number u64"; "06 tick, 08 reset: empty. 07 block: size byte. 09 rate: f64"
-pub other-records : (first (0x00 ∷ 2 ∷ 1 ∷ words) ≡ Record 0x00 (Create 2 None 578_437_695_752_307_201) (at 11)) × (later (0x06 ∷ 9 ∷ []) ≡ Record 0x06 Tick (at 1)) × (later (0x07 ∷ 255 ∷ 9 ∷ []) ≡ Record 0x07 (Process 255) (at 2)) × (later (0x08 ∷ 9 ∷ []) ≡ Record 0x08 Reset (at 1)) × (later (0x09 ∷ times) ≡ Record 0x09 (SetSampleRate (fin false 3 (negsuc 0))) (at 9))
+pub other-records : (first (0x00 ∷ 2 ∷ 1 ∷ words) ≡ Record 0x00 (Create 2 None 578_437_695_752_307_201) (at 11))
+    × (later (0x06 ∷ 9 ∷ []) ≡ Record 0x06 Tick (at 1)) × (later (0x07 ∷ 255 ∷ 9 ∷ []) ≡ Record 0x07 (Process 255) (at 2))
+    × (later (0x08 ∷ 9 ∷ []) ≡ Record 0x08 Reset (at 1)) × (later (0x09 ∷ times) ≡ Record 0x09 (SetSampleRate (fin false 3 (negsuc 0))) (at 9))
 unfolding first later
 other-records = (refl, refl, refl, refl, refl)
 

@@ -1,10 +1,10 @@
--- `listing_out::list_counts` is safe and ends: the line is within the text. Assumes nothing.
+-- `desk_trail::lines::list_counts` is safe and ends: the line is within the text. Assumes nothing.
 use mathlib.Core.Path.{sym}
 use lib.Seq.{length-take-le}
 use native.Mathlib.Omega.{arith}
 use borrow.Author.Needs.{needs}
-use Rattle.listing_out.proofs.list_counts.Statement.{statement}
-use Rattle.listing_out.proofs.list_counts.Tie as tie
+use Rattle.desk_trail.proofs.lines.list_counts.Statement.{statement}
+use Rattle.desk_trail.proofs.lines.list_counts.Tie as tie
 
 slice-aggregate-write-all : tie.Need-slice-aggregate-write-all
 slice-aggregate-write-all c = sym (length-take-le _ _ (omega arith))

@@ -1,12 +1,12 @@
--- `listing_out::list_samples` is safe and ends: each channel's line is within the text. Assumes nothing.
+-- `desk_trail::lines::list_samples` is safe and ends: each channel's line is within the text. Assumes nothing.
 use borrow.Author.Needs.{needs}
 use mathlib.Core.Path.{_≡_, sym}
 use lib.Seq.{length-take-le}
 use lib.ListN.{length}
 use Prim.Native.Nat.{_≤_}
 use native.Mathlib.Omega.{arith}
-use Rattle.listing_out.proofs.list_samples.Statement.{statement}
-use Rattle.listing_out.proofs.list_samples.Tie as tie
+use Rattle.desk_trail.proofs.lines.list_samples.Statement.{statement}
+use Rattle.desk_trail.proofs.lines.list_samples.Tie as tie
 
 abbrev Inv-loop : tie.InvT-loop
 Inv-loop samples channels each stride text₀ left₀ from₀ text left from = (length text ≡ 576) × (from ≤ length samples)

@@ -1,7 +1,7 @@
--- `listing_out::list` meets its contract: past the test no refusal is 1. Assumes nothing.
+-- `desk_trail::lines::list` meets its contract: past the test no refusal is 1. Assumes nothing.
 use borrow.Author.Needs.{needs}
-use Rattle.listing_out.proofs.list.Statement.{statement}
-use Rattle.listing_out.proofs.list.Tie as tie
+use Rattle.desk_trail.proofs.lines.list.Statement.{statement}
+use Rattle.desk_trail.proofs.lines.list.Tie as tie
 
 returns-3 : tie.Need-returns-3
 returns-3 c = λ e. absurd (c .before .if2 .left e)

@@ -1,11 +1,13 @@
-// A record's lines, written to standard output. No contract can say what is written; what the lines are is crate `listing`'s.
+// A record's lines, written to standard output: what they are is told by the contracts of crates `listing` and `state_listing`.
 ghost use mathlib.Core.Path.{_≡_};
 ghost use mathlib.Core.Bool.{false};
+use realseq::Answer;
+use realseq::SequencerBackend;
 use sequencer::Counts;
 use tape::reader::Read;
 
 // Whether the line was written.
-pub fn list_counts(kind: u8, refusal: u64, counts: Counts) -> bool {
+pub(crate) fn list_counts(kind: u8, refusal: u64, counts: Counts) -> bool {
     let mut text = [0u8; 128];
     let n = listing::counts_line(
         kind,
@@ -52,7 +54,7 @@ fn list_samples(samples: &[f32], channels: usize, each: usize, stride: usize) ->
 }
 
 // Lists a record that was carried out or refused; false where the listing ends: at refusal 1, and where a line was not written.
-pub fn list(
+pub(crate) fn list(
     kind: u8,
     refusal: u64,
     counts: Counts,
@@ -73,7 +75,7 @@ pub fn list(
 }
 
 // The line of a record that 14 or 15 refuses.
-pub fn stop(r: Read, counts: Counts) {
+pub(crate) fn stop(r: Read, counts: Counts) {
     match r {
         Read::Refused { kind, number } => {
             list_counts(kind, number as u64, counts);
@@ -84,5 +86,14 @@ pub fn stop(r: Read, counts: Counts) {
             call: _,
             next: _,
         } => {}
+    }
+}
+
+// The line of a record's answer and of the state behind it.
+pub(crate) fn list_state(kind: u8, answer: Answer, d: SequencerBackend) {
+    let mut text = [0u8; 1024];
+    let n = state_listing::desk_line(kind, answer, d, &mut text);
+    if n <= 1024 {
+        io::write_all(1, &text[..n]);
     }
 }
