@@ -1,5 +1,6 @@
 //! Playing one tape on two players and comparing everything after each record.
 
+use crate::judge::{is_marked, qualifies};
 use crate::player::{Player, Pool};
 use crate::session::{Session, Step};
 use crate::state::{State, sample_bits};
@@ -23,7 +24,8 @@ pub struct Tally {
     pub refusals: [u64; 19],
 }
 
-/// Play a tape on both; the tally, or the first difference. A panic is a difference.
+/// Play a tape on both; the tally, or the first difference. A panic is a difference. The outputs of marked calls are compared
+/// only where every contribution of the tape qualifies (document 02, Paper 9).
 pub fn agree<A: Player, B: Player>(
     format: Format,
     variants: (A::Variant, B::Variant),
@@ -63,15 +65,17 @@ fn run<A: Player, B: Player>(
         samples: None,
     };
     tally.count(answer_a.refusal());
-    compare(&a, created(answer_a), &b, created(answer_b)).map_err(|what| at(0, what))?;
+    compare(&a, created(answer_a), &b, created(answer_b), true).map_err(|what| at(0, what))?;
     if answer_a.refusal() != 0 {
         return Ok(tally);
     }
+    let alike = qualifies(calls);
     for (place, call) in calls.iter().enumerate() {
         record.set(place + 1);
+        let heard = alike || !is_marked(call);
         let (step_a, step_b) = (a.step(call), b.step(call));
         tally.count(step_a.answer.refusal());
-        compare(&a, step_a, &b, step_b).map_err(|what| at(place + 1, what))?;
+        compare(&a, step_a, &b, step_b, heard).map_err(|what| at(place + 1, what))?;
     }
     tally.count_stop(stop);
     Ok(tally)
@@ -107,11 +111,14 @@ fn compare<A: Player, B: Player>(
     step_a: Step,
     b: &Session<B>,
     step_b: Step,
+    heard: bool,
 ) -> Result<(), String> {
     equal("answer", &step_a, &step_b)?;
     equal("counts", &a.player.counts(), &b.player.counts())?;
     states(&a.player.state(), &b.player.state())?;
-    memory("output", &a.output, &b.output)?;
+    if heard {
+        memory("output", &a.output, &b.output)?;
+    }
     equal("scratch length", &a.scratch.len(), &b.scratch.len())?;
     let decided = match step_a.samples {
         Some(_) => a

@@ -1,6 +1,6 @@
 //! One player with the counts of another: the original, which counts no places, beside the second ledger, which does.
 
-use crate::call::{Edit, Mode, Push, PushKind, Timing};
+use crate::call::{Edit, MixOrder, Mode, Push, PushKind, Timing};
 use crate::player::{Answer, Places, Player, Pool};
 use crate::state::{Counts, State};
 
@@ -29,22 +29,24 @@ impl<P: Player, L: Player> Player for Beside<P, L> {
         self.player.edit(timing, edit)
     }
 
-    fn tick(&mut self, output: &mut [f32], pool: &Pool) -> Answer {
-        self.counting.tick(&mut output.to_vec(), pool);
-        self.player.tick(output, pool)
+    fn tick(&mut self, order: MixOrder, output: &mut [f32], pool: &Pool) -> Answer {
+        self.counting.tick(order, &mut output.to_vec(), pool);
+        self.player.tick(order, output, pool)
     }
 
     fn block(
         &mut self,
+        order: MixOrder,
         size: usize,
         output: &mut [f32],
         scratch: Option<&mut [f32]>,
         pool: &Pool,
     ) -> Answer {
         let mut copy = scratch.as_deref().map(<[f32]>::to_vec);
+        let mut other = output.to_vec();
         self.counting
-            .block(size, &mut output.to_vec(), copy.as_deref_mut(), pool);
-        self.player.block(size, output, scratch, pool)
+            .block(order, size, &mut other, copy.as_deref_mut(), pool);
+        self.player.block(order, size, output, scratch, pool)
     }
 
     fn reset(&mut self) -> Answer {

@@ -25,6 +25,13 @@ pub enum Timing {
     Relative,
 }
 
+/// The order in which a tick or block adds the sounding events. Document 02, Paper 9: with the mark from the list's end.
+#[derive(Clone, Copy, PartialEq, Eq, Debug)]
+pub enum MixOrder {
+    Forward,
+    Backward,
+}
+
 /// How a push gives its end.
 #[derive(Clone, Copy, PartialEq, Eq, Debug)]
 pub enum PushKind {
@@ -82,6 +89,9 @@ pub enum Call {
     BlockLent(u8, u16, Option<u16>),
     /// Scripts only: the length of the pool that is lent from here on.
     Pool(u16),
+    /// Scripts only: a tick and a block with the mark. A marked block is lent no scratch.
+    MarkedTick,
+    MarkedBlock(u8),
     /// Engine scripts only: so many blocks of 64 samples, up to the first refused one.
     Spin(u32),
 }
@@ -110,6 +120,8 @@ impl Call {
             Call::BlockLent(..) => 0x12,
             Call::Pool(_) => 0x13,
             Call::Spin(_) => 0x14,
+            Call::MarkedTick => 0x15,
+            Call::MarkedBlock(_) => 0x16,
         }
     }
 }

@@ -88,8 +88,10 @@ impl Compared {
             records: original.records + ledger.records,
             differences: original.differences + ledger.differences,
         };
-        original.print(&format!("{name}: all gains 1.0, by the original"));
-        ledger.print(&format!("{name}: other gains, by the second ledger"));
+        original.print(&format!("{name}: by the original"));
+        ledger.print(&format!(
+            "{name}: other gains or marks, by the second ledger"
+        ));
         all.print(name);
         if all.differences == 0 && all.tapes > 0 {
             ExitCode::SUCCESS

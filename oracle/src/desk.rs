@@ -1,6 +1,6 @@
 //! The original's front and backend behind the refusals.
 
-use crate::call::{Edit, Mode, Push, PushKind, Timing};
+use crate::call::{Edit, MixOrder, Mode, Push, PushKind, Timing};
 use crate::engine::{
     answer, clock_after, fresh_sequencer, held, load_scratch, process, send_edit, send_push,
     store_scratch,
@@ -93,7 +93,7 @@ impl Player for Desk {
         self.try_edit(timing, edit).unwrap_or_else(Answer::Refused)
     }
 
-    fn tick(&mut self, output: &mut [f32], pool: &Pool) -> Answer {
+    fn tick(&mut self, _: MixOrder, output: &mut [f32], pool: &Pool) -> Answer {
         let sequencer = self.back.sequencer();
         let after = sequencer.clock() + sequencer.duration();
         let check = refusal::tick(self.channels(), output.len(), after);
@@ -105,6 +105,7 @@ impl Player for Desk {
 
     fn block(
         &mut self,
+        _: MixOrder,
         size: usize,
         output: &mut [f32],
         scratch: Option<&mut [f32]>,

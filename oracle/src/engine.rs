@@ -1,6 +1,6 @@
 //! The original's sequencer behind the refusals.
 
-use crate::call::{Curve, Edit, Mode, Push, PushKind, Timing};
+use crate::call::{Curve, Edit, MixOrder, Mode, Push, PushKind, Timing};
 use crate::original::audiounit::AudioUnit;
 use crate::original::buffer::{BufferMut, BufferRef, BufferVec};
 use crate::original::sequencer::{EventId, Fade, ReplayMode, Sequencer};
@@ -174,7 +174,7 @@ impl Player for Engine {
         self.try_edit(timing, edit).unwrap_or_else(Answer::Refused)
     }
 
-    fn tick(&mut self, output: &mut [f32], pool: &Pool) -> Answer {
+    fn tick(&mut self, _: MixOrder, output: &mut [f32], pool: &Pool) -> Answer {
         let after = self.sequencer.clock() + self.sequencer.duration();
         let check = refusal::tick(self.channels(), output.len(), after);
         if check.is_ok() {
@@ -185,6 +185,7 @@ impl Player for Engine {
 
     fn block(
         &mut self,
+        _: MixOrder,
         size: usize,
         output: &mut [f32],
         scratch: Option<&mut [f32]>,

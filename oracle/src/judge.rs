@@ -1,8 +1,9 @@
 //! What a tape is measured by. Document 02, Paper 5: the Rust has no gain, so it is the measure where all gains of a tape are
-//! 1.0; for other gains it is the ledger, with the gain's multiplication written in.
+//! 1.0; for other gains it is the ledger, with the gain's multiplication written in. Paper 9: nor has it a mark, so for marked
+//! calls it is the ledger too, unless every contribution qualifies: there the mark is without consequence.
 
 use crate::beside::Beside;
-use crate::call::Call;
+use crate::call::{Call, Push, Source};
 use crate::desk::Desk;
 use crate::engine::Engine;
 use crate::ledger::{DeskLedger, Ledger};
@@ -18,6 +19,32 @@ pub enum Judge {
     Ledger,
 }
 
+pub fn is_marked(call: &Call) -> bool {
+    matches!(call, Call::MarkedTick | Call::MarkedBlock(_))
+}
+
+/// "Multiples of 1/32768 within -1 and 1."
+fn is_multiple(x: f32) -> bool {
+    x.abs() <= 1.0 && (x * 32_768.0).fract() == 0.0
+}
+
+/// Whether no push or edit of a list lets a fade act, and every source gives such multiples, as those of `trail`'s pool are.
+pub fn qualifies(calls: &[Call]) -> bool {
+    let push = |push: &Push| {
+        let source = match push.source {
+            Source::Held { level } => is_multiple(level),
+            Source::Ramp { value, step } => is_multiple(value) && step == 0.0,
+            Source::Clip { .. } => true,
+        };
+        source && push.gain() == 1.0 && push.fade_in <= 0.0 && push.fade_out <= 0.0
+    };
+    calls.iter().all(|call| match call {
+        Call::Push(_, pushed, _) => push(pushed),
+        Call::Edit(_, edit) => edit.fade_out <= 0.0,
+        _ => true,
+    })
+}
+
 /// The judge of a tape. A gain that is refused is not 1.0 either.
 pub fn judge(format: Format, tape: &[u8]) -> Judge {
     let (calls, _) = tape::records(format, tape);
@@ -25,7 +52,8 @@ pub fn judge(format: Format, tape: &[u8]) -> Judge {
         Call::Push(_, push, _) => push.gain() == 1.0,
         _ => true,
     };
-    if calls.iter().all(is_one) {
+    let is_marked = calls.iter().any(is_marked) && !qualifies(&calls);
+    if calls.iter().all(is_one) && !is_marked {
         Judge::Original
     } else {
         Judge::Ledger

@@ -107,8 +107,11 @@ fn state<P: Player>(
 
 /// The counts of an accepted block's places, where they are asked for.
 fn places<P: Player>(detail: Detail, call: &Call, step: Step, player: &P) -> Option<Places> {
-    let block = matches!(call, Call::Block(_) | Call::BlockLent(..)) && step.samples.is_some();
-    if detail == Detail::Places && block {
+    let block = matches!(
+        call,
+        Call::Block(_) | Call::BlockLent(..) | Call::MarkedBlock(_)
+    );
+    if detail == Detail::Places && block && step.samples.is_some() {
         player.places()
     } else {
         None

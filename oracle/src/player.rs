@@ -1,6 +1,6 @@
 //! What the original and the ledger have in common: the calls, with what is lent to them.
 
-use crate::call::{Edit, Mode, Push, PushKind, Timing};
+use crate::call::{Edit, MixOrder, Mode, Push, PushKind, Timing};
 use crate::state::{Counts, State};
 use std::rc::Rc;
 
@@ -53,9 +53,11 @@ pub trait Player: Sized {
     fn create(variant: Self::Variant, channels: u8, mode: Mode, first: u64) -> (Self, Answer);
     fn push(&mut self, kind: PushKind, push: &Push) -> Answer;
     fn edit(&mut self, timing: Timing, edit: &Edit) -> Answer;
-    fn tick(&mut self, output: &mut [f32], pool: &Pool) -> Answer;
+    /// The Rust has no mark: the original adds forward, whatever the order.
+    fn tick(&mut self, order: MixOrder, output: &mut [f32], pool: &Pool) -> Answer;
     fn block(
         &mut self,
+        order: MixOrder,
         size: usize,
         output: &mut [f32],
         scratch: Option<&mut [f32]>,

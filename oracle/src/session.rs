@@ -1,6 +1,6 @@
 //! Playing a tape's records on a player, with the memory that is lent to each call.
 
-use crate::call::Call;
+use crate::call::{Call, MixOrder};
 use crate::player::{Answer, BLOCK, Player, Pool};
 
 /// The length of `trail`'s pool.
@@ -14,7 +14,7 @@ pub fn pool(length: u16) -> Pool {
 }
 
 /// What lent memory holds before a call, so that untouched places show.
-fn marked(length: usize) -> Vec<f32> {
+fn numbered(length: usize) -> Vec<f32> {
     (0..length).map(|place| -1.0 - place as f32).collect()
 }
 
@@ -65,16 +65,22 @@ impl<P: Player> Session<P> {
             Call::Create { .. } => unreachable!("the reader stops at a later creation"),
             Call::Push(kind, ref push, _) => self.player.push(kind, push),
             Call::Edit(timing, ref edit) => self.player.edit(timing, edit),
-            Call::Tick => return self.tick(channels),
+            Call::Tick => return self.tick(MixOrder::Forward, channels),
+            Call::MarkedTick => return self.tick(MixOrder::Backward, channels),
             Call::Block(size) => {
-                return self.block(size.into(), BLOCK * channels, Some(BLOCK));
+                let scratch = Some(BLOCK);
+                return self.block(MixOrder::Forward, size.into(), BLOCK * channels, scratch);
+            }
+            Call::MarkedBlock(size) => {
+                return self.block(MixOrder::Backward, size.into(), BLOCK * channels, None);
             }
             Call::Reset => self.player.reset(),
             Call::Rate(rate) => self.player.rate(rate),
             Call::FrontReset => self.player.front_reset(),
-            Call::TickLent(output) => return self.tick(output.into()),
+            Call::TickLent(output) => return self.tick(MixOrder::Forward, output.into()),
             Call::BlockLent(size, output, scratch) => {
-                return self.block(size.into(), output.into(), scratch.map(usize::from));
+                let scratch = scratch.map(usize::from);
+                return self.block(MixOrder::Forward, size.into(), output.into(), scratch);
             }
             Call::Pool(length) => {
                 self.pool = pool(length);
@@ -88,24 +94,35 @@ impl<P: Player> Session<P> {
         }
     }
 
-    fn tick(&mut self, output: usize) -> Step {
-        self.output = marked(output);
-        let answer = self.player.tick(&mut self.output, &self.pool);
+    fn tick(&mut self, order: MixOrder, output: usize) -> Step {
+        self.output = numbered(output);
+        let answer = self.player.tick(order, &mut self.output, &self.pool);
         given(answer, 1)
     }
 
-    fn block(&mut self, size: usize, output: usize, scratch: Option<usize>) -> Step {
-        self.output = marked(output);
-        self.scratch = marked(scratch.unwrap_or(0));
+    fn block(
+        &mut self,
+        order: MixOrder,
+        size: usize,
+        output: usize,
+        scratch: Option<usize>,
+    ) -> Step {
+        self.output = numbered(output);
+        self.scratch = numbered(scratch.unwrap_or(0));
         let lent = scratch.map(|_| &mut self.scratch[..]);
-        let answer = self.player.block(size, &mut self.output, lent, &self.pool);
+        let answer = self
+            .player
+            .block(order, size, &mut self.output, lent, &self.pool);
         given(answer, size)
     }
 
     fn spin(&mut self, blocks: u32) -> Answer {
         let mut output = vec![0.0; BLOCK * self.player.channels()];
         for _ in 0..blocks {
-            let answer = self.player.block(BLOCK, &mut output, None, &self.pool);
+            let order = MixOrder::Forward;
+            let answer = self
+                .player
+                .block(order, BLOCK, &mut output, None, &self.pool);
             if answer.refusal() != 0 {
                 return answer;
             }

@@ -7,9 +7,9 @@ use crate::call::{Call, Curve, Edit, Mode, Push, PushKind, Source, Timing};
 pub enum Format {
     /// Document 01's tape with document 02's Paper 5: kinds 00 to 0C.
     Tape,
-    /// A tape with kinds 11 to 14 for what is lent and for many blocks at once.
+    /// A tape with kinds 11 to 14 for what is lent and for many blocks at once, and 15 and 16 for marked calls.
     Script,
-    /// A tape for the desk with kinds 11 to 13, and 10 for the front's reset.
+    /// A tape for the desk with kinds 11 to 13, 15 and 16, and 10 for the front's reset.
     Desk,
 }
 
@@ -39,6 +39,8 @@ fn body_length(format: Format, kind: u8) -> Option<usize> {
         0x12 if scripted => Some(5),
         0x13 if scripted => Some(2),
         0x14 if format == Format::Script => Some(4),
+        0x15 if scripted => Some(0),
+        0x16 if scripted => Some(1),
         _ => None,
     }
 }
@@ -119,7 +121,9 @@ fn take_apart(kind: u8, body: &[u8]) -> Call {
             Call::BlockLent(body[0], u16_at(body, 1), scratch)
         }
         0x13 => Call::Pool(u16_at(body, 0)),
-        _ => Call::Spin(u32_at(body, 0)),
+        0x14 => Call::Spin(u32_at(body, 0)),
+        0x15 => Call::MarkedTick,
+        _ => Call::MarkedBlock(body[0]),
     }
 }
 
@@ -204,8 +208,8 @@ pub fn write(tape: &mut Vec<u8>, call: &Call) {
             tape.extend(edit.end.to_bits().to_le_bytes());
             tape.extend(edit.fade_out.to_bits().to_le_bytes());
         }
-        Call::Tick | Call::Reset | Call::FrontReset => {}
-        Call::Block(size) => tape.push(size),
+        Call::Tick | Call::MarkedTick | Call::Reset | Call::FrontReset => {}
+        Call::Block(size) | Call::MarkedBlock(size) => tape.push(size),
         Call::Rate(rate) => tape.extend(rate.to_bits().to_le_bytes()),
         Call::TickLent(output) => tape.extend(output.to_le_bytes()),
         Call::BlockLent(size, output, scratch) => {

@@ -57,6 +57,8 @@ fn line(call: &Call) -> String {
         }
         Call::Pool(length) => format!("pool {length}"),
         Call::Spin(blocks) => format!("spin {blocks}"),
+        Call::MarkedTick => "tick-marked".into(),
+        Call::MarkedBlock(size) => format!("block-marked {size}"),
     }
 }
 
@@ -190,6 +192,8 @@ fn read_line(name: &str, words: &mut Words, tape: &mut Vec<u8>) -> Result<(), St
         "edit" => Call::Edit(Timing::Absolute, read_edit(words)?),
         "edit-relative" => Call::Edit(Timing::Relative, read_edit(words)?),
         "tick" => Call::Tick,
+        "tick-marked" => Call::MarkedTick,
+        "block-marked" => Call::MarkedBlock(words.number()?),
         "block" => Call::Block(words.number()?),
         "reset" => Call::Reset,
         "rate" => Call::Rate(words.double()?),

@@ -1,6 +1,6 @@
 //! Refusal 12 on the desk: the clock is read before a queued reset is handled.
 
-use oracle::call::Mode;
+use oracle::call::{MixOrder, Mode};
 use oracle::desk::Desk;
 use oracle::ledger::DeskLedger;
 use oracle::player::{Answer, BLOCK, Player};
@@ -15,13 +15,25 @@ fn at_the_limit<P: Player>() {
     let mut output = [0.0; BLOCK];
     desk.rate(1.0);
     for _ in 0..BLOCKS {
-        assert_eq!(desk.block(BLOCK, &mut output, None, &pool), Answer::Done);
+        assert_eq!(
+            desk.block(MixOrder::Forward, BLOCK, &mut output, None, &pool),
+            Answer::Done
+        );
     }
     assert_eq!(desk.front_reset(), Answer::Queued);
-    assert_eq!(desk.tick(&mut output[..1], &pool), Answer::Refused(12));
+    assert_eq!(
+        desk.tick(MixOrder::Forward, &mut output[..1], &pool),
+        Answer::Refused(12)
+    );
     assert_eq!(desk.state().messages.len(), 1);
-    assert_eq!(desk.block(0, &mut output, None, &pool), Answer::Done);
-    assert_eq!(desk.tick(&mut output[..1], &pool), Answer::Done);
+    assert_eq!(
+        desk.block(MixOrder::Forward, 0, &mut output, None, &pool),
+        Answer::Done
+    );
+    assert_eq!(
+        desk.tick(MixOrder::Forward, &mut output[..1], &pool),
+        Answer::Done
+    );
 }
 
 #[test]

@@ -30,7 +30,36 @@ fn what_is_not_read_is_not_judged() {
     assert_eq!(judge_of(behind_a_stop), Judge::Original);
 }
 
-/// Tapes of gain 1.0 have both forms of push; the other profiles with gains are the ledger's.
+/// Document 02, Paper 9: a tape with marks is the ledger's, unless every contribution qualifies.
+#[test]
+fn marks_are_the_ledgers() {
+    let judge_of = |lines: &str| {
+        let text = format!("create 1 all 1\n{lines}\ntick-marked\nblock-marked 8\n");
+        judge(Format::Desk, &from_text(&text).unwrap())
+    };
+    for push in [
+        "held 1",
+        "held -0.000030517578125",
+        "ramp 0.5 0",
+        "clip 7 9",
+    ] {
+        let push = format!("push 0 1 0 0 smooth {push}");
+        assert_eq!(judge_of(&push), Judge::Original, "{push}");
+    }
+    for line in [
+        "push 0 1 0 0 smooth held 1.000030517578125",
+        "push 0 1 0 0 smooth held 0.0000152587890625",
+        "push 0 1 0 0 smooth ramp 0 0.5",
+        "push 0 1 0.5 0 smooth held 1",
+        "push 0 1 0 0.5 smooth held 1",
+        "push 0 1 0 0 smooth held 1 gain 0.5",
+        "edit 1 2 0.5",
+    ] {
+        assert_eq!(judge_of(line), Judge::Ledger, "{line}");
+    }
+}
+
+/// Tapes of gain 1.0 have both forms of push; the other profiles with gains are the ledger's, and those with marks.
 #[test]
 fn profiles_have_their_gains() {
     for profile in PROFILES.iter().filter(|profile| !profile.damaged) {
@@ -53,7 +82,8 @@ fn profiles_have_their_gains() {
             "{}",
             profile.name
         );
-        let other = matches!(profile.gains, Gains::Finite | Gains::Any);
+        let other = matches!(profile.gains, Gains::Finite | Gains::Any)
+            || profile.marks > 0 && !profile.multiples;
         assert_eq!(by_ledger > 10, other, "{}", profile.name);
         assert_eq!(by_ledger > 0, other, "{}", profile.name);
     }

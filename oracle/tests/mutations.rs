@@ -70,6 +70,7 @@ fn the_ledger_itself_passes() {
     }
     for what in [DESK, DESK_PLACES] {
         assert!(compare(what, "desk-resets", None).status.success());
+        assert!(compare(what, "desk-marks", None).status.success());
     }
 }
 
@@ -164,6 +165,28 @@ fn block_as_n_ticks_in_the_example() {
     assert_eq!(block(&[]).as_deref(), Some("07 0 0 1 0 0"));
     let mutated = block(&["--mutation", "block-as-ticks"]);
     assert_eq!(mutated.as_deref(), Some("07 0 0 0 1 0"));
+}
+
+/// Document 02, Paper 9: a marked call adds from the end of the list as the call leaves it.
+#[test]
+fn mark_ignored() {
+    caught(DESK, "desk-marks", "mark-ignored");
+}
+
+#[test]
+fn mark_before_moves() {
+    caught(DESK, "desk-marks", "mark-before-moves");
+}
+
+/// Where every contribution qualifies the mark is without consequence, and the Rust, which has none, is the judge.
+#[test]
+fn marks_without_consequence() {
+    for mutation in [None, Some("mark-ignored"), Some("mark-before-moves")] {
+        let output = compare(DESK_PLACES, "desk-marks-alike", mutation);
+        assert!(output.status.success(), "{output:?}");
+        let counts = String::from_utf8(output.stdout).expect("counts are text");
+        assert!(counts.contains("by the original: 200 tapes"), "{counts}");
+    }
 }
 
 #[test]

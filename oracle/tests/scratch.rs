@@ -1,6 +1,6 @@
 //! Document 02, Paper 7: a block's scratch, where it is lent, has 64 samples, whatever the channels; else 10, before 11 and 12.
 
-use oracle::call::{Curve, Mode, Push, PushKind, Source};
+use oracle::call::{Curve, MixOrder, Mode, Push, PushKind, Source};
 use oracle::desk::Desk;
 use oracle::engine::Engine;
 use oracle::ledger::{DeskLedger, Ledger};
@@ -27,7 +27,13 @@ fn block<P: Player>(channels: u8, size: usize, length: usize) -> (Answer, Vec<f3
     player.push(PushKind::Absolute, &PUSH);
     let mut output = vec![-1.0; BLOCK * usize::from(channels)];
     let mut scratch = vec![-2.0; length];
-    let answer = player.block(size, &mut output, Some(&mut scratch), &pool(0));
+    let answer = player.block(
+        MixOrder::Forward,
+        size,
+        &mut output,
+        Some(&mut scratch),
+        &pool(0),
+    );
     if answer == Answer::Done {
         let silent = |samples: &[f32]| samples.iter().all(|sample| *sample == 0.0);
         for channel in output.chunks(BLOCK) {

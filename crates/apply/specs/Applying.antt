@@ -5,6 +5,7 @@ use mathlib.Core.List.{List, [], _∷_, _++_}
 use lib.Dec.{eqb}
 use lib.Ieee.{Float}
 use lib.ListN.{length, take, drop}
+use Rattle.event.specs.declared.MixOrder.the-variants.{Forward}
 use Rattle.sequencer.specs.declared.Sequencer.{Sequencer}
 use Rattle.sequencer.specs.declared.Outcome.{Outcome}
 use Rattle.sequencer.specs.declared.Answer.{Answer}
@@ -53,17 +54,19 @@ lentTick s out = min (channelsOf s) (length out)
 abbrev pub lentBlock : Sequencer → (out : List Float) → ℕ
 lentBlock s out = min (64 * channelsOf s) (length out)
 
+-- the tape has no mark (document 02, Paper 9): its ticks and blocks add in S order
+
 unfoldable pub ticking : (pool : List Float) → Sequencer → (out : List Float) → Applied
-ticking pool s out = soundingOf (ticks pool (lentTick s out) s) (channelsOf s) 1 1
+ticking pool s out = soundingOf (ticks Forward pool (lentTick s out) s) (channelsOf s) 1 1
 
 unfoldable pub tickingOut : (pool : List Float) → Sequencer → (out : List Float) → List Float
-tickingOut pool s out = tickOuts pool s (take (lentTick s out) out) ++ drop (lentTick s out) out
+tickingOut pool s out = tickOuts Forward pool s (take (lentTick s out) out) ++ drop (lentTick s out) out
 
 unfoldable pub processing : (pool : List Float) → (n : ℕ) → Sequencer → (out : List Float) → Applied
-processing pool n s out = soundingOf (blocks pool n (lentBlock s out) s) (channelsOf s) n 64
+processing pool n s out = soundingOf (blocks Forward pool n (lentBlock s out) s) (channelsOf s) n 64
 
 unfoldable pub processingOut : (pool : List Float) → (n : ℕ) → Sequencer → (out : List Float) → List Float
-processingOut pool n s out = blockOuts pool n s (take (lentBlock s out) out) ++ drop (lentBlock s out) out
+processingOut pool n s out = blockOuts Forward pool n s (take (lentBlock s out) out) ++ drop (lentBlock s out) out
 
 -- "01 push, 02 relative, 03 by duration"
 abbrev pub pushKindOf : ℕ → PushKind

@@ -5,6 +5,7 @@ ghost use Rattle.floats.specs.Arithmetic.{zeroᶠ};
 ghost use Rattle.event.specs.declared.ReplayMode.the-variants.{All};
 ghost use Rattle.sequencer.specs.Creation.{created};
 ghost use Rattle.apply.specs.Applying.{refusalOf, silentOf, soundingOf, ticking, tickingOut, processing, processingOut, pushKindOf, pushed, appliedTo, appliedOut};
+use event::MixOrder;
 use event::ReplayMode;
 use runs::least;
 use sequencer::Answer;
@@ -82,7 +83,7 @@ fn tick(s: Sequencer, pool: &[f32], out: &mut [f32]) -> Applied
 {
     let channels = least(s.outputs, 8);
     let n = least(channels, out.len());
-    let r = s.tick(pool, &mut out[..n]);
+    let r = s.tick(MixOrder::Forward, pool, &mut out[..n]);
     sounding(r, channels, 1, 1)
 }
 
@@ -92,7 +93,7 @@ fn process(s: Sequencer, size: usize, pool: &[f32], out: &mut [f32]) -> Applied
 {
     let channels = least(s.outputs, 8);
     let n = least(64 * channels, out.len());
-    let r = s.process(size, pool, &mut out[..n]);
+    let r = s.process(MixOrder::Forward, size, pool, &mut out[..n]);
     sounding(r, channels, size, 64)
 }
 

@@ -30,8 +30,8 @@ gives o out = (o .sequencer, record { answer = answerOf (o .answer); out = out; 
 abbrev pub engineCall : Sequencer → Call → Sequencer × Reply
 engineCall s (push kind start end fade-in fade-out curve source gain) = gives (pushes kind s start end curve fade-in fade-out source gain) []
 engineCall s (edit kind k end fade-out) = gives (edits kind s (record { 0 = k }) end fade-out) []
-engineCall s (tick pool out) = gives (ticks pool (length out) s) (tickOuts pool s out)
-engineCall s (block n pool out scratch) = gives (blocks pool n (length out) s) (blockOuts pool n s out)
+engineCall s (tick order pool out) = gives (ticks order pool (length out) s) (tickOuts order pool s out)
+engineCall s (block order n pool out scratch) = gives (blocks order pool n (length out) s) (blockOuts order pool n s out)
 engineCall s (rate r) = gives (rates s r) []
 engineCall s reset = gives (accepts (resets s)) []
 

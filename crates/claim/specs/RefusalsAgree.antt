@@ -12,6 +12,7 @@ use lib.Ieee.{Float}
 use borrow.Author.Tests.{eq-eqb, ne-eqb, le-leb, lt-leb, eqb-true}
 use Rattle.event.specs.declared.Event.{Event}
 use Rattle.event.specs.declared.Fade.{Fade}
+use Rattle.event.specs.declared.MixOrder.{MixOrder}
 use Rattle.event.specs.declared.Source.{Source}
 use Rattle.event.specs.declared.StoredEdit.{StoredEdit}
 use Rattle.floats.specs.Arithmetic.{_-ᵈ_, _<ᶠ_}
@@ -100,9 +101,9 @@ edit-refused l kind k end fade-out found edits θ until p q n h u =
 
 -- ---- a tick, a block, a rate
 
-pub tick-refused : (l : Ledger) (pool out : List Float) (c : ℕ) (t d : Float) → c ≡ l .channels → t ≡ l .clock → d ≡ l .duration → Agrees (tickRefusal (length out) c t d) (refusal l (tick pool out))
+pub tick-refused : (l : Ledger) (order : MixOrder) (pool out : List Float) (c : ℕ) (t d : Float) → c ≡ l .channels → t ≡ l .clock → d ≡ l .duration → Agrees (tickRefusal (length out) c t d) (refusal l (tick order pool out))
 unfolding tickRefusal refusal checks tickEnd
-tick-refused l pool out c t d p q r = rw (p, q, r) (agrees (checks l (tick pool out)) (tt, (tt, tt)))
+tick-refused l order pool out c t d p q r = rw (p, q, r) (agrees (checks l (tick order pool out)) (tt, (tt, tt)))
 
 -- 64 × c, tested by division
 rows : (n c : ℕ) → (eqb (n % 64) 0 && eqb (n / 64) c) ≡ (eqb n (64 * c) && true)
@@ -116,10 +117,10 @@ rows n c = go (ℕ-discrete n (64 * c))
     go (yes h) = rw (eq-eqb n (64 * c) h, eq-eqb (n % 64) 0 (omega arith)) (eq-eqb (n / 64) c (omega arith))
     go (no h) = rw (ne-eqb n (64 * c) h) (left (eqb (n % 64) 0) refl h)
 
-pub block-refused : (l : Ledger) (n : ℕ) (pool out : List Float) (c : ℕ) (t d : Float) → c ≡ l .channels → t ≡ l .clock → d ≡ l .duration
-    → Agrees (processRefusal n (length out) c t d) (refusal l (block n pool out none))
+pub block-refused : (l : Ledger) (order : MixOrder) (n : ℕ) (pool out : List Float) (c : ℕ) (t d : Float) → c ≡ l .channels → t ≡ l .clock → d ≡ l .duration
+    → Agrees (processRefusal n (length out) c t d) (refusal l (block order n pool out none))
 unfolding processRefusal refusal checks blockEnd
-block-refused l n pool out c t d p q r = rw (p, q, r, rows (length out) (l .channels)) (agrees (checks l (block n pool out none)) (tt, (tt, (tt, tt))))
+block-refused l order n pool out c t d p q r = rw (p, q, r, rows (length out) (l .channels)) (agrees (checks l (block order n pool out none)) (tt, (tt, (tt, tt))))
 
 pub rate-refused : (l : Ledger) (r : Float) → Agrees (rateRefusal r) (refusal l (rate r))
 unfolding rateRefusal refusal checks

@@ -57,11 +57,11 @@ refused-unchanged s (edit kind m end fade-out) k h =
     let d : Edit = record { «end_time» = until; «fade_out» = fade-out } in
     let n = editRefusal (placeIn s id) (s .«edit_map») (s .«active_threshold») id end until fade-out in
     by-test s k n (eqb n 0) (changed s id d) (λ b. []) (changed-free s id d (placeIn s id) (until <ᶠ s .«active_threshold»)) h
-refused-unchanged s (tick pool out) k h =
+refused-unchanged s (tick order pool out) k h =
     let n = tickRefusal (length out) (s .outputs) (s .time) (s .«sample_duration») in
-    by-test s k n (eqb n 0) (accepts (renderedTick pool s)) (λ b. cond b (renderedTickOut pool s out) out) refl h
-refused-unchanged s (block m pool out scratch) k h =
+    by-test s k n (eqb n 0) (accepts (renderedTick order pool s)) (λ b. cond b (renderedTickOut order pool s out) out) refl h
+refused-unchanged s (block order m pool out scratch) k h =
     let n = processRefusal m (length out) (s .outputs) (s .time) (s .«sample_duration») in
-    by-test s k n (eqb n 0) (renders (renderedBlock pool m s) (renderedPlaces m s)) (λ b. cond b (renderedBlockOut pool m s out) out) refl h
+    by-test s k n (eqb n 0) (renders (renderedBlock order pool m s) (renderedPlaces order m s)) (λ b. cond b (renderedBlockOut order pool m s out) out) refl h
 refused-unchanged s (rate r) k h = by-test s k (rateRefusal r) (eqb (rateRefusal r) 0) (accepts (reRated s r)) (λ b. []) refl h
 refused-unchanged s reset k h = absurd (let z : none ≡ some k = ap refusedWith h in let w : _≡_ {A = ℕ} 0 1 = cc in omega arith)

@@ -1,7 +1,7 @@
 -- The engine's samples are the ledger's: the pass over the sounding array gives the ledger's sum of a tick or a block, leaves the events as the ledger's stand after it, and the output written from it is the ledger's. Assumes nothing.
 use mathlib.Core.Bool.{Bool, true, false, cond}
 use mathlib.Core.Path.{_≡_, refl, sym, ap, ap₂, _∙_, subst}
-use mathlib.Core.List.{List, [], _∷_, map, foldl}
+use mathlib.Core.List.{List, [], _∷_, _++_, map, foldl, reverseAux, append-nil}
 use Prim.Native.Nat.{ℕ, zero, suc, _-_, _≤_, min}
 use native.Mathlib.Omega.{arith}
 use lib.Dec.{ltb}
@@ -10,8 +10,10 @@ use lib.ListN.{length, take, replicate, length-replicate}
 use lib.Seq.{take-all}
 use Rattle.event.specs.declared.Event.{Event}
 use Rattle.event.specs.Events.{blank, withUnit}
+use Rattle.event.specs.declared.MixOrder.{MixOrder}
+use Rattle.event.specs.declared.MixOrder.the-variants.{Forward, Backward}
 use Rattle.event.specs.declared.Placings.{Placings}
-use Rattle.event.specs.Placings.{noPlacings, addAll, addAll-append, tally, counts-agree}
+use Rattle.event.specs.Placings.{noPlacings, addAll, addAll-append, addAll-swap, tally, counts-agree}
 use Rattle.event.specs.Sources.{advancedBy}
 use Rattle.floats.specs.Arithmetic.{zeroᶠ}
 use Rattle.lists.specs.Holds.{holds-to, holds-length}
@@ -22,7 +24,7 @@ use Rattle.ledger.specs.FormerMethod as Former
 use Rattle.ledger.specs.Places.{eventPlacings, placings, placings-within}
 use Rattle.ledger.specs.Ledger.{Ledger}
 use Rattle.ledger.specs.Steps as Plain
-use Rattle.ledger.specs.Steps.{cleared}
+use Rattle.ledger.specs.Steps.{cleared, inOrder}
 use Rattle.mixing.specs.Blocks.{clearedPlaces, cleared-is, cleared-within}
 use Rattle.sequencer.specs.declared.Sequencer.{Sequencer}
 use Rattle.sequencer.specs.Parts.{withSounding}
@@ -59,25 +61,28 @@ same-ids : (f : Event → Event) → ((e : Event) → idOf (f e) ≡ idOf e) →
 same-ids f h [] = refl
 same-ids f h (e ∷ l) = ap₂ (λ x y. x ∷ y) (sym (h e)) (same-ids f h l)
 
-module _ {S : Type 0} (next : Event → Event) (plus : S → Event → S) (z : S) (keeps : (e : Event) → idOf (next e) ≡ idOf e) where
-  related-pass : (s : Sequencer) (l : Ledger) → Related s l → let p = passes next plus blank (min (s .«active_len») 256) (s .active) 0 z in
-      Related (withSounding s (p .items)) (Plain.withSounding l (map next (l .sounding))) × (p .sum ≡ foldl plus z (l .sounding))
+module _ {S : Type 0} (next : Event → Event) (plus : S → Event → S) (z : S) (keeps : (e : Event) → idOf (next e) ≡ idOf e) (order : MixOrder) where
+  related-pass : (s : Sequencer) (l : Ledger) → Related s l → let p = passes next plus blank order (min (s .«active_len») 256) (s .active) 0 z in
+      Related (withSounding s (p .items)) (Plain.withSounding l (map next (l .sounding))) × (p .sum ≡ foldl plus z (inOrder order (l .sounding)))
   related-pass s l r =
       let whole : s .«active_len» ≡ min (s .«active_len») 256 = omega (arith, r .lists .1 .fits) in
-      let p = holds-pass next plus blank (s .active) (s .«active_len») (l .sounding) z (r .lists .1) in
+      let p = holds-pass next plus blank order (s .active) (s .«active_len») (l .sounding) z (r .lists .1) in
       subst
-      (λ (n : ℕ). let p = passes next plus blank n (s .active) 0 z in Related (withSounding s (p .items)) (Plain.withSounding l (map next (l .sounding))) × (p .sum ≡ foldl plus z (l .sounding)))
+      (λ (n : ℕ). let p = passes next plus blank order n (s .active) 0 z in Related (withSounding s (p .items)) (Plain.withSounding l (map next (l .sounding))) × (p .sum ≡ foldl plus z (inOrder order (l .sounding))))
       whole
       (record { lists = (r .lists .0, p .0, holds-to (same-ids next keeps (l .sounding)) (r .lists .2), r .lists .3, r .lists .4); plain = r .plain }, p .1)
 
 -- ---- a tick at clock t, and a block
 
-pub related-tick : (pool : List Float) (t : Float) (s : Sequencer) (l : Ledger) → Related s l → let sum = tickSum pool t (l .sounding) zeroᶠ in
-    Related (withSounding s (tickPass pool t s .items)) (Plain.withSounding l (sum .events)) × (tickPass pool t s .sum ≡ sum .out)
+pub related-tick : (order : MixOrder) (pool : List Float) (t : Float) (s : Sequencer) (l : Ledger) → Related s l
+    → Related (withSounding s (tickPass order pool t s .items)) (Plain.withSounding l (tickSum pool t (l .sounding) zeroᶠ .events))
+    × (tickPass order pool t s .sum ≡ tickSum pool t (inOrder order (l .sounding)) zeroᶠ .out)
 unfolding tickPass
-related-tick pool t s l r =
-    let k = related-pass afterTick (addTick pool t) zeroᶠ (λ e. refl) s l r in
-    (subst (λ (x : List Event). Related (withSounding s (tickPass pool t s .items)) (Plain.withSounding l x)) (tick-events pool t (l .sounding) zeroᶠ) (k .0), k .1 ∙ tick-out pool t (l .sounding) zeroᶠ)
+related-tick order pool t s l r =
+    let k = related-pass afterTick (addTick pool t) zeroᶠ (λ e. refl) order s l r in (
+      subst (λ (x : List Event). Related (withSounding s (tickPass order pool t s .items)) (Plain.withSounding l x)) (tick-events pool t (l .sounding) zeroᶠ) (k .0),
+      k .1 ∙ tick-out pool t (inOrder order (l .sounding)) zeroᶠ,
+    )
 
 after-id : (b : Span) (e : Event) → idOf (afterBlock b e) ≡ idOf e
 unfolding afterBlock
@@ -87,16 +92,18 @@ after-id b e = go (ltb (firstPlace b e) (endPlace b e))
     go true = refl
     go false = refl
 
-pub related-block : (pool : List Float) (b : Span) (n : ℕ) (s : Sequencer) (l : Ledger) → n ≤ 64 → Related s l → let sum = blockSum pool b (l .sounding) (cleared n) [] in
-    Related (withSounding s (blockPass pool b n s .items)) (Plain.withSounding l (sum .events)) × (take 64 (blockPass pool b n s .sum) ≡ sum .channel)
+pub related-block : (order : MixOrder) (pool : List Float) (b : Span) (n : ℕ) (s : Sequencer) (l : Ledger) → n ≤ 64 → Related s l
+    → Related (withSounding s (blockPass order pool b n s .items)) (Plain.withSounding l (blockSum pool b (l .sounding) (cleared n) [] .events))
+    × (take 64 (blockPass order pool b n s .sum) ≡ blockSum pool b (inOrder order (l .sounding)) (cleared n) [] .channel)
 unfolding blockPass
-related-block pool b n s l h r =
+related-block order pool b n s l h r =
+    let x : List Event = inOrder order (l .sounding) in
     let z : List Float = replicate (clearedPlaces n) zeroᶠ in
-    let k = related-pass (afterBlock b) (addBlock pool b) z (after-id b) s l r in
+    let k = related-pass (afterBlock b) (addBlock pool b) z (after-id b) order s l r in
     let same : z ≡ cleared n = ap (λ (m : ℕ). replicate m zeroᶠ) (cleared-is n h) in
-    let short : length (foldl (addBlock pool b) z (l .sounding)) ≤ 64 = omega (arith, length-channel pool b (l .sounding) z, length-replicate (clearedPlaces n) zeroᶠ, cleared-within n) in (
-      subst (λ (x : List Event). Related (withSounding s (blockPass pool b n s .items)) (Plain.withSounding l x)) (Former.events-once pool b (l .sounding) (cleared n) []) (k .0),
-      ap (take 64) (k .1) ∙ take-all 64 (foldl (addBlock pool b) z (l .sounding)) short ∙ ap (λ (x : List Float). foldl (addBlock pool b) x (l .sounding)) same ∙ block-channel pool b (l .sounding) (cleared n) [],
+    let short : length (foldl (addBlock pool b) z x) ≤ 64 = omega (arith, length-channel pool b x z, length-replicate (clearedPlaces n) zeroᶠ, cleared-within n) in (
+      subst (λ (x : List Event). Related (withSounding s (blockPass order pool b n s .items)) (Plain.withSounding l x)) (Former.events-once pool b (l .sounding) (cleared n) []) (k .0),
+      ap (take 64) (k .1) ∙ take-all 64 (foldl (addBlock pool b) z x) short ∙ ap (λ (y : List Float). foldl (addBlock pool b) y x) same ∙ block-channel pool b x (cleared n) [],
     )
 
 -- how the places of a block came
@@ -106,10 +113,25 @@ unfolding placings
 fold-places b [] c = refl
 fold-places b (e ∷ l) c = fold-places b l (addPlaces b c e) ∙ sym (addAll-append c (eventPlacings b e) (placings b l))
 
-pub related-places : (b : Span) (s : Sequencer) (l : Ledger) → Related s l → placesPass b s .sum ≡ tally (placings b (l .sounding))
+-- the counts do not depend on the order
+module _ {S : Type 0} (plus : S → Event → S) (swaps : (s : S) (x y : Event) → plus (plus s x) y ≡ plus (plus s y) x) where
+  fold-late : (l : List Event) (x : Event) (r : List Event) (s : S) → foldl plus s (l ++ (x ∷ r)) ≡ foldl plus s (x ∷ (l ++ r))
+  fold-late [] x r s = refl
+  fold-late (y ∷ l) x r s = fold-late l x r (plus s y) ∙ ap (λ (q : S). foldl plus q (l ++ r)) (swaps s y x)
+
+  fold-back : (l r : List Event) (s : S) → foldl plus s (reverseAux l r) ≡ foldl plus s (l ++ r)
+  fold-back [] r s = refl
+  fold-back (x ∷ l) r s = fold-back l (x ∷ r) s ∙ fold-late l x r s
+
+  fold-order : (order : MixOrder) (l : List Event) (s : S) → foldl plus s (inOrder order l) ≡ foldl plus s l
+  fold-order Forward l s = refl
+  fold-order Backward l s = fold-back l [] s ∙ ap (foldl plus s) (append-nil l)
+
+pub related-places : (order : MixOrder) (b : Span) (s : Sequencer) (l : Ledger) → Related s l → placesPass order b s .sum ≡ tally (placings b (l .sounding))
 unfolding placesPass
-related-places b s l r =
+related-places order b s l r =
     let h = r .lists .1 in
-    related-pass (afterBlock b) (addPlaces b) noPlacings (after-id b) s l r .1
+    related-pass (afterBlock b) (addPlaces b) noPlacings (after-id b) order s l r .1
+    ∙ fold-order (addPlaces b) (λ c x y. addAll-swap c (eventPlacings b x) (eventPlacings b y)) order (l .sounding) noPlacings
     ∙ fold-places b (l .sounding) noPlacings
     ∙ counts-agree (placings b (l .sounding)) (omega (arith, placings-within b (l .sounding), h .fits, holds-length h))

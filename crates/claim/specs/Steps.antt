@@ -10,8 +10,10 @@ use lib.Ieee.{Float}
 use lib.ListN.{length, replicate, take}
 use borrow.Author.Tests.{eq-eqb, ne-eqb}
 use Rattle.event.specs.declared.Edit.{Edit}
+use Rattle.event.specs.declared.Event.{Event}
 use Rattle.event.specs.declared.EventId.{EventId}
 use Rattle.event.specs.declared.Fade.{Fade}
+use Rattle.event.specs.declared.MixOrder.{MixOrder}
 use Rattle.event.specs.declared.Source.{Source}
 use Rattle.floats.specs.Arithmetic.{_+ᵈ_, _-ᵈ_, _×ᵈ_, _<ᶠ_, zeroᶠ, whole}
 use Rattle.ready.specs.Waits.{waits-length}
@@ -29,7 +31,7 @@ use Rattle.ledger.specs.Refusals.{firstOf, checks, pushChecks, editChecks, refu
 use Rattle.ledger.specs.Refusals as Checks
 use Rattle.ledger.specs.Refused.{AllPass, all-pass}
 use Rattle.ledger.specs.Steps as Plain
-use Rattle.ledger.specs.Steps.{step, decide, accept, refusedReply, pushedTime, change, advance, cleared}
+use Rattle.ledger.specs.Steps.{step, decide, accept, refusedReply, pushedTime, change, advance, inOrder, cleared}
 use Rattle.ledger.specs.Lawful.{Lawful}
 use Rattle.ledger.specs.LedgerMeets.{same-reply}
 use Rattle.ledger.specs.Claim.{SameReply, Lends}
@@ -178,19 +180,19 @@ module _ (s : Sequencer) (l : Ledger) (kind : EditKind) (k : ℕ) (end fade-out 
 
 -- ---- a tick
 
-module _ (s : Sequencer) (l : Ledger) (pool out : List Float) where
-  pub keep-tick : Lawful l → Related s l → Keeps (gives (ticks pool (length out) s) (tickOuts pool s out)) (step l (tick pool out))
+module _ (s : Sequencer) (l : Ledger) (order : MixOrder) (pool out : List Float) where
+  pub keep-tick : Lawful l → Related s l → Keeps (gives (ticks order pool (length out) s) (tickOuts order pool s out)) (step l (tick order pool out))
   unfolding ticks tickOuts renderedTick renderedTickOut accept checks Checks.tickEnd
-  keep-tick w r = by-refusal s l C N X r (tick-refused l pool out (s .outputs) (s .time) (s .«sample_duration») (r .plain .4) (r .plain .0) (r .plain .3)) refl carried
+  keep-tick w r = by-refusal s l C N X r (tick-refused l order pool out (s .outputs) (s .time) (s .«sample_duration») (r .plain .4) (r .plain .0) (r .plain .3)) refl carried
     where
       C : Call
-      C = tick pool out
+      C = tick order pool out
 
       N : ℕ
       N = tickRefusal (length out) (s .outputs) (s .time) (s .«sample_duration»)
 
       X : Bool → Sequencer × Reply
-      X b = gives (cond b (accepts (renderedTick pool s)) (refuses s N)) (cond b (renderedTickOut pool s out) out)
+      X b = gives (cond b (accepts (renderedTick order pool s)) (refuses s N)) (cond b (renderedTickOut order pool s out) out)
 
       E : Float
       E = l .clock +ᵈ l .duration
@@ -200,35 +202,36 @@ module _ (s : Sequencer) (l : Ledger) (pool out : List Float) where
 
       Same : (e t : Float) → Type 0
       Same e t =
-          let sum = tickSum pool (l .clock) (advance l E .sounding) zeroᶠ in
-          Related (withSounding (advanced s e) (tickPass pool t (advanced s e) .items)) (Plain.withSounding (advance l E) (sum .events)) × (tickPass pool t (advanced s e) .sum ≡ sum .out)
+          let m = advance l E in
+          Related (withSounding (advanced s e) (tickPass order pool t (advanced s e) .items)) (Plain.withSounding m (tickSum pool (l .clock) (m .sounding) zeroᶠ .events))
+          × (tickPass order pool t (advanced s e) .sum ≡ tickSum pool (l .clock) (inOrder order (m .sounding)) zeroᶠ .out)
 
       same : Same (tickEnd s) (s .time)
       same =
           subst (λ (t : Float). Same (tickEnd s) t) (sym (r .plain .0))
-          (subst (λ (e : Float). Same e (l .clock)) (sym ends) (related-tick pool (l .clock) (advanced s E) (advance l E) (related-advance s l E w r)))
+          (subst (λ (e : Float). Same e (l .clock)) (sym ends) (related-tick order pool (l .clock) (advanced s E) (advance l E) (related-advance s l E w r)))
 
       carried : refusal l C ≡ none → Keeps (X true) (accept l C)
       carried q =
           let p = passed l C q in
           let long : length out ≡ l .channels = eqb→eq (length out) (l .channels) (not-not (eqb (length out) (l .channels)) (p .0)) in
-          (same .0, record { answer = refl; out = ap (replicate (length out)) (same .1) ∙ ap (λ (c : ℕ). replicate c (tickSum pool (l .clock) (advance l E .sounding) zeroᶠ .out)) long; scratch = tt })
+          (same .0, record { answer = refl; out = ap (replicate (length out)) (same .1) ∙ ap (λ (c : ℕ). replicate c (tickSum pool (l .clock) (inOrder order (advance l E .sounding)) zeroᶠ .out)) long; scratch = tt })
 
 -- ---- a block, which is lent no scratch
 
-module _ (s : Sequencer) (l : Ledger) (n : ℕ) (pool out : List Float) where
-  pub keep-block : Lawful l → Related s l → Keeps (gives (blocks pool n (length out) s) (blockOuts pool n s out)) (step l (block n pool out none))
+module _ (s : Sequencer) (l : Ledger) (order : MixOrder) (n : ℕ) (pool out : List Float) where
+  pub keep-block : Lawful l → Related s l → Keeps (gives (blocks order pool n (length out) s) (blockOuts order pool n s out)) (step l (block order n pool out none))
   unfolding blocks blockOuts renderedBlock renderedPlaces renderedBlockOut accept checks Checks.blockEnd
-  keep-block w r = by-refusal s l C N X r (block-refused l n pool out (s .outputs) (s .time) (s .«sample_duration») (r .plain .4) (r .plain .0) (r .plain .3)) refl carried
+  keep-block w r = by-refusal s l C N X r (block-refused l order n pool out (s .outputs) (s .time) (s .«sample_duration») (r .plain .4) (r .plain .0) (r .plain .3)) refl carried
     where
       C : Call
-      C = block n pool out none
+      C = block order n pool out none
 
       N : ℕ
       N = processRefusal n (length out) (s .outputs) (s .time) (s .«sample_duration»)
 
       X : Bool → Sequencer × Reply
-      X b = gives (cond b (renders (renderedBlock pool n s) (renderedPlaces n s)) (refuses s N)) (cond b (renderedBlockOut pool n s out) out)
+      X b = gives (cond b (renders (renderedBlock order pool n s) (renderedPlaces order n s)) (refuses s N)) (cond b (renderedBlockOut order pool n s out) out)
 
       E : Float
       E = l .clock +ᵈ l .duration ×ᵈ whole n
@@ -241,22 +244,25 @@ module _ (s : Sequencer) (l : Ledger) (n : ℕ) (pool out : List Float) where
           let size : min 64 n ≡ n = omega arith in
           λ i. record { size = size i; clock = r .plain .0 i; upto = ends i; rate = r .plain .2 i; duration = r .plain .3 i }
 
-      Sum : BlockSum
-      Sum = blockSum pool (Plain.spanOf l n) (advance l E .sounding) (cleared n) []
+      Sum : List Event → BlockSum
+      Sum x = blockSum pool (Plain.spanOf l n) x (cleared n) []
+
+      channel : List Float
+      channel = Sum (inOrder order (advance l E .sounding)) .channel
 
       Same : Float → Span → Type 0
       Same e b =
-          Related (withSounding (advanced s e) (blockPass pool b n (advanced s e) .items)) (Plain.withSounding (advance l E) (Sum .events))
-          × (take 64 (blockPass pool b n (advanced s e) .sum) ≡ Sum .channel)
-          × (placesPass b (advanced s e) .sum ≡ tally (placings (Plain.spanOf l n) (advance l E .sounding)))
+          Related (withSounding (advanced s e) (blockPass order pool b n (advanced s e) .items)) (Plain.withSounding (advance l E) (Sum (advance l E .sounding) .events))
+          × (take 64 (blockPass order pool b n (advanced s e) .sum) ≡ channel)
+          × (placesPass order b (advanced s e) .sum ≡ tally (placings (Plain.spanOf l n) (advance l E .sounding)))
 
       same : n ≤ 64 → Same (blockEnd s n) (spanOf s n)
       same h =
           subst (λ (b : Span). Same (blockEnd s n) b) (sym (spans h))
           (subst (λ (e : Float). Same e (Plain.spanOf l n)) (sym ends)
           (let a = related-advance s l E w r in
-          let k = related-block pool (Plain.spanOf l n) n (advanced s E) (advance l E) h a in
-          (k .0, k .1, related-places (Plain.spanOf l n) (advanced s E) (advance l E) a)))
+          let k = related-block order pool (Plain.spanOf l n) n (advanced s E) (advance l E) h a in
+          (k .0, k .1, related-places order (Plain.spanOf l n) (advanced s E) (advance l E) a)))
 
       carried : refusal l C ≡ none → Keeps (X true) (accept l C)
       carried q =
@@ -264,7 +270,7 @@ module _ (s : Sequencer) (l : Ledger) (n : ℕ) (pool out : List Float) where
           let long : length out ≡ 64 * l .channels = eqb→eq (length out) (64 * l .channels) (first-of (eqb (length out) (64 * l .channels)) true (p .0)) in
           let rows : length out / 64 ≡ l .channels = omega arith in
           let k = same (nltb→le 64 n (p .1 .0)) in
-          (k .0, record { answer = ap rendered (k .2); out = ap (λ (x : List Float). overlay (length out / 64) x out) (k .1) ∙ ap (λ (c : ℕ). overlay c (Sum .channel) out) rows; scratch = tt })
+          (k .0, record { answer = ap rendered (k .2); out = ap (λ (x : List Float). overlay (length out / 64) x out) (k .1) ∙ ap (λ (c : ℕ). overlay c channel out) rows; scratch = tt })
 
 -- ---- a rate and a reset
 
@@ -283,8 +289,8 @@ keep-reset s l w r = (related-reset s l w r, same-reply (Plain.answers done))
 pub keep : (s : Sequencer) (l : Ledger) (c : Call) → Lends false c → Lawful l → Related s l → Keeps (engineCall s c) (step l c)
 keep s l (push kind start end fade-in fade-out curve source gain) h w r = keep-push s l kind start end curve fade-in fade-out source gain w r
 keep s l (edit kind k end fade-out) h w r = keep-edit s l kind k end fade-out r
-keep s l (tick pool out) h w r = keep-tick s l pool out w r
-keep s l (block n pool out none) h w r = keep-block s l n pool out w r
-keep s l (block n pool out (some x)) h w r = absurd (true≢false h)
+keep s l (tick order pool out) h w r = keep-tick s l order pool out w r
+keep s l (block order n pool out none) h w r = keep-block s l order n pool out w r
+keep s l (block order n pool out (some x)) h w r = absurd (true≢false h)
 keep s l (rate x) h w r = keep-rate s l x w r
 keep s l reset h w r = keep-reset s l w r

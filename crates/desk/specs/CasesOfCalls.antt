@@ -1,14 +1,15 @@
 -- Document 01, "The desk": what each call queues, drains, returns and refuses. At rate 8 from clock 0. Assumes nothing.
 use Prim.Native.Nat.{ℕ, _-_, _^_}
 use mathlib.Core.Path.{_≡_, refl}
-use mathlib.Core.Bool.{false}
+use mathlib.Core.Bool.{true, false}
 use mathlib.Core.List.{List, [], _∷_, _++_}
-use lib.IntN.{negsuc}
+use lib.IntN.{pos, negsuc}
 use lib.ListN.{take, replicate}
 use lib.Ieee.{Float, nan, fin}
 use Rattle.event.specs.declared.Event.{Event}
 use Rattle.event.specs.declared.StoredEdit.{StoredEdit}
 use Rattle.event.specs.declared.Fade.the-variants.{Smooth}
+use Rattle.event.specs.declared.MixOrder.the-variants.{Forward, Backward}
 use Rattle.event.specs.declared.ReplayMode.the-variants.{All, None}
 use Rattle.event.specs.declared.Source.the-variants.{Held}
 use Rattle.floats.specs.Arithmetic.{zeroᶠ, oneᶠ, halfᶠ, +∞, -∞, whole}
@@ -22,10 +23,10 @@ use Rattle.desk.specs.CasesOfSlips.{held1, event, desk}
 
 -- a tick and a block of n samples of one channel, lent 0.5
 abbrev one-tick : Call
-one-tick = back (tick [] (halfᶠ ∷ []))
+one-tick = back (tick Forward [] (halfᶠ ∷ []))
 
 abbrev blockOf : (n : ℕ) → Call
-blockOf n = back (block n [] (replicate 64 halfᶠ))
+blockOf n = back (block Forward n [] (replicate 64 halfᶠ))
 
 -- held 1.0 without fades, at a gain and at 1.0, and an edit without a fade-out
 abbrev atGain : (gain : Float) → Message
@@ -164,6 +165,14 @@ pub back-writes : (lastOut (replies (front held1 ∷ one-tick ∷ [])) ≡ one�
 unfolding replies
 back-writes = (refl, refl)
 
+-- Paper 9: the back's marked calls add from the end of the list. Of 1, 2 ^ 30 and - 2 ^ 30 the sum in f32 is 1 so, and 0 in order.
+pub back-marked :
+    let q : List Call = front held1 ∷ front (atGain (fin false 1 (pos 30))) ∷ front (atGain (fin true 1 (pos 30))) ∷ [] in
+    (lastOut (replies (q ++ (back (tick Backward [] (halfᶠ ∷ [])) ∷ []))) ≡ oneᶠ ∷ []) × (take 1 (lastOut (replies (q ++ (back (block Backward 1 [] (replicate 64 halfᶠ)) ∷ [])))) ≡ oneᶠ ∷ [])
+    × (lastOut (replies (q ++ (one-tick ∷ []))) ≡ zeroᶠ ∷ [])
+unfolding replies
+back-marked = (refl, refl, refl)
+
 -- ---- refusals
 
 -- a desk in mode None, clock t and so many edits stored
@@ -177,8 +186,8 @@ deskAt k t q = let l = run (back (rate oneᶠ) ∷ []) (opened (fresh 1 None 500
 -- "A refused call drains neither queue": a tick with no output, a block of 65, a rate of 0; what is lent is as lent.
 pub refused-drains-nothing :
     let d : Desk = deskAt 0 zeroᶠ (held1 ∷ []) in
-    let r : List Reply = run (back (tick [] []) ∷ blockOf 65 ∷ back (rate zeroᶠ) ∷ []) d .replies in
-    let e : Desk = run (back (tick [] []) ∷ blockOf 65 ∷ back (rate zeroᶠ) ∷ []) d .desk in
+    let r : List Reply = run (back (tick Forward [] []) ∷ blockOf 65 ∷ back (rate zeroᶠ) ∷ []) d .replies in
+    let e : Desk = run (back (tick Forward [] []) ∷ blockOf 65 ∷ back (rate zeroᶠ) ∷ []) d .desk in
     (r ≡ record { answer = refused 10; out = [] } ∷ record { answer = refused 11; out = replicate 64 halfᶠ } ∷ record { answer = refused 2; out = [] } ∷ []) × (e .queued ≡ held1 ∷ []) × (e .returned ≡ 8 ∷ []) × (e .back .clock ≡ zeroᶠ)
 unfolding run deskAt
 refused-drains-nothing = (refl, refl, refl, refl)

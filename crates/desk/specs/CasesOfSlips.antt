@@ -7,6 +7,7 @@ use lib.ListN.{length, replicate}
 use lib.Ieee.{Float}
 use Rattle.event.specs.declared.Event.{Event}
 use Rattle.event.specs.declared.Fade.the-variants.{Smooth}
+use Rattle.event.specs.declared.MixOrder.the-variants.{Forward}
 use Rattle.event.specs.declared.ReplayMode.the-variants.{None}
 use Rattle.event.specs.declared.Source.the-variants.{Held}
 use Rattle.floats.specs.Arithmetic.{zeroᶠ, oneᶠ}
@@ -30,7 +31,7 @@ desk w s f q r = let l = fresh 1 None 1 in record { back = withLists l w s f (l 
 -- The queue is not handled flat: the push behind a queued reset is let go (case 8).
 unfoldable pub queuedReset : Desk
 unfolding run fresh
-queuedReset = run (front reset ∷ front held1 ∷ back (tick [] (zeroᶠ ∷ [])) ∷ []) (opened (fresh 1 None 1)) .desk
+queuedReset = run (front reset ∷ front held1 ∷ back (tick Forward [] (zeroᶠ ∷ [])) ∷ []) (opened (fresh 1 None 1)) .desk
 
 pub queue-is-not-flat : (held (queuedReset .back) ≡ 0) × (queuedReset .back .gone ≡ 1 ∷ [])
 unfolding queuedReset

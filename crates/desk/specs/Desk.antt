@@ -7,6 +7,7 @@ use lib.Dec.{leb}
 use lib.ListN.{length, take}
 use lib.Ieee.{Float, sub, lt}
 use Rattle.event.specs.declared.Fade.{Fade}
+use Rattle.event.specs.declared.MixOrder.{MixOrder}
 use Rattle.event.specs.declared.Placings.{Placings}
 use Rattle.event.specs.declared.Source.{Source}
 use Rattle.event.specs.declared.ReplayMode.{ReplayMode}
@@ -29,8 +30,8 @@ pub data Message : Type 0 where
 
 -- what the back is called with; its blocks are lent no scratch
 pub data BackCall : Type 0 where
-  tick : (pool out : List Float) → BackCall
-  block : (size : ℕ) → (pool out : List Float) → BackCall
+  tick : MixOrder → (pool out : List Float) → BackCall
+  block : MixOrder → (size : ℕ) → (pool out : List Float) → BackCall
   rate : Float → BackCall
   reset : BackCall
 
@@ -56,8 +57,8 @@ messageCall (edit kind k end fade-out) = Calls.edit kind k end fade-out
 messageCall reset = Calls.reset
 
 abbrev pub backCall : BackCall → Calls.Call
-backCall (tick pool out) = Calls.tick pool out
-backCall (block n pool out) = Calls.block n pool out none
+backCall (tick order pool out) = Calls.tick order pool out
+backCall (block order n pool out) = Calls.block order n pool out none
 backCall (rate r) = Calls.rate r
 backCall reset = Calls.reset
 
@@ -174,11 +175,11 @@ sends d m = record {
 -- the back, once the messages are drained
 unfoldable pub acts : Desk → BackCall → Outcome
 unfolding accept sendFinished restarted
-acts d (tick pool out) =
-    let o = accept (d .back) (Calls.tick pool out) in
+acts d (tick order pool out) =
+    let o = accept (d .back) (Calls.tick order pool out) in
     record { desk = sendFinished (d .back .mode) (withBack (o .ledger) d); reply = record { answer = done; out = o .reply .out } }
-acts d (block n pool out) =
-    let o = accept (d .back) (Calls.block n pool out none) in
+acts d (block order n pool out) =
+    let o = accept (d .back) (Calls.block order n pool out none) in
     record { desk = sendFinished (d .back .mode) (withBack (o .ledger) d); reply = record { answer = rendered (blockPlaces (d .back) n); out = o .reply .out } }
 acts d (rate r) = record { desk = withBack (accept (d .back) (Calls.rate r) .ledger) d; reply = record { answer = done; out = [] } }
 acts d reset = record { desk = resetOf d; reply = record { answer = done; out = [] } }
@@ -192,8 +193,8 @@ carriedOut d (back c) = acts (drained d) c
 
 abbrev pub lentOut : Call → List Float
 lentOut (front m) = []
-lentOut (back (tick pool out)) = out
-lentOut (back (block n pool out)) = out
+lentOut (back (tick order pool out)) = out
+lentOut (back (block order n pool out)) = out
 lentOut (back (rate r)) = []
 lentOut (back reset) = []
 

@@ -433,11 +433,11 @@ block-free l m n k u a b p h =
 kept-free : (l m : Ledger) (c : BackCall) → Kept l m → l .duration ≡ oneᶠ ÷ᵈ l .rate → T (oneᶠ ≤ᶠ l .rate) → T (l .rate ≤ᶠ whole 1_000_000)
     → AllPass (checks l (backCall c)) → AllPass (checks m (backCall c))
 unfolding checks
-kept-free l m (tick pool out) k u a b h = (
+kept-free l m (tick order pool out) k u a b h = (
   subst (λ (n : ℕ). T (not (not (eqb (length out) n)))) (sym (k .channels)) (h .0),
   (yes-not-not (tickEnd m ≤ᶠ whole 1_000_000_000) (tick-free l m k u a b (not-not (tickEnd l ≤ᶠ whole 1_000_000_000) (h .1 .0))), tt),
 )
-kept-free l m (block n pool out) k u a b h = (
+kept-free l m (block order n pool out) k u a b h = (
   subst (λ (c : ℕ). T (not (not (eqb (length out) (64 * c) && true)))) (sym (k .channels)) (h .0),
   (
     h .1 .0,

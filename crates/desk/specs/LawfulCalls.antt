@@ -82,14 +82,14 @@ setRate-lawful l x false q r e w n u a b a' b' = empty-lawful (setRate l x false
 
 pub acts-lawful : (d : Desk) (c : BackCall) → d .queued ≡ [] → refusal (d .back) (backCall c) ≡ none → DeskLawful d → DeskLawful (acts d c .desk)
 unfolding acts accept advance refusal checks
-acts-lawful d (tick pool out) e h w =
-    let l = accept (d .back) (Calls.tick pool out) .ledger in
+acts-lawful d (tick order pool out) e h w =
+    let l = accept (d .back) (Calls.tick order pool out) .ledger in
     finished-lawful (d .back .mode) (withBack l d)
-    (empty-lawful l (d .queued) (d .returned) e (accept-lawful (d .back) (Calls.tick pool out) h (w .lawful)) (w .returns) (w .duration) (w .slowest) (w .fastest))
-acts-lawful d (block n pool out) e h w =
-    let l = accept (d .back) (Calls.block n pool out none) .ledger in
+    (empty-lawful l (d .queued) (d .returned) e (accept-lawful (d .back) (Calls.tick order pool out) h (w .lawful)) (w .returns) (w .duration) (w .slowest) (w .fastest))
+acts-lawful d (block order n pool out) e h w =
+    let l = accept (d .back) (Calls.block order n pool out none) .ledger in
     finished-lawful (d .back .mode) (withBack l d)
-    (empty-lawful l (d .queued) (d .returned) e (accept-lawful (d .back) (Calls.block n pool out none) h (w .lawful)) (w .returns) (w .duration) (w .slowest) (w .fastest))
+    (empty-lawful l (d .queued) (d .returned) e (accept-lawful (d .back) (Calls.block order n pool out none) h (w .lawful)) (w .returns) (w .duration) (w .slowest) (w .fastest))
 acts-lawful d (rate r) e h w =
     let p = all-pass (checks (d .back) (Calls.rate r)) h in
     let q = both (oneᶠ ≤ᶠ r) (r ≤ᶠ whole 1_000_000) (not-not (oneᶠ ≤ᶠ r && r ≤ᶠ whole 1_000_000) (p .0)) in

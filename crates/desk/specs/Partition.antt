@@ -129,11 +129,11 @@ module _ (u : ℕ → ℕ) where
 
   acts-sum : (d : Desk) (c : BackCall) → fourSum u (acts d c .desk .back) ≡ fourSum u (d .back)
   unfolding acts accept
-  acts-sum d (tick pool out) =
-      let c = Calls.tick pool out in
+  acts-sum d (tick order pool out) =
+      let c = Calls.tick order pool out in
       omega (arith, finished-sum u (d .back .mode) (withBack (accept (d .back) c .ledger) d), accept-adds u (d .back) c)
-  acts-sum d (block n pool out) =
-      let c = Calls.block n pool out none in
+  acts-sum d (block order n pool out) =
+      let c = Calls.block order n pool out none in
       omega (arith, finished-sum u (d .back .mode) (withBack (accept (d .back) c .ledger) d), accept-adds u (d .back) c)
   acts-sum d (rate r) = omega (arith, accept-adds u (d .back) (Calls.rate r))
   acts-sum d reset = restarted-sum u (d .back .mode) d
@@ -152,11 +152,11 @@ setRate-next l r false = refl
 
 acts-quiet : (d : Desk) (c : BackCall) → Quiet d (acts d c)
 unfolding acts accept advance
-acts-quiet d (tick pool out) =
-    let e = withBack (accept (d .back) (Calls.tick pool out) .ledger) d in
+acts-quiet d (tick order pool out) =
+    let e = withBack (accept (d .back) (Calls.tick order pool out) .ledger) d in
     record { answered = refl; next = finished-next (d .back .mode) e; queued = finished-queued (d .back .mode) e }
-acts-quiet d (block n pool out) =
-    let e = withBack (accept (d .back) (Calls.block n pool out none) .ledger) d in
+acts-quiet d (block order n pool out) =
+    let e = withBack (accept (d .back) (Calls.block order n pool out none) .ledger) d in
     record { answered = refl; next = finished-next (d .back .mode) e; queued = finished-queued (d .back .mode) e }
 acts-quiet d (rate r) = record { answered = refl; next = setRate-next (d .back) r (eq (d .back .rate) r); queued = refl }
 acts-quiet d reset = record { answered = refl; next = restarted-next (d .back .mode) d; queued = restarted-queued (d .back .mode) d }

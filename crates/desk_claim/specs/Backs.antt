@@ -7,6 +7,7 @@ use mathlib.Core.Option.{Option, none}
 use lib.Dec.{eqb}
 use lib.Ieee.{Float}
 use lib.ListN.{length}
+use Rattle.event.specs.declared.MixOrder.{MixOrder}
 use Rattle.event.specs.declared.ReplayMode.{ReplayMode}
 use Rattle.event.specs.declared.Placings.{Placings}
 use Rattle.event.specs.Placings.{noPlacings}
@@ -55,28 +56,28 @@ placesIn (Calls.rendered c) = c
 placesIn (Calls.refused k) = noPlacings
 
 module _ (s : Sequencer) (l : Ledger) (w : Lawful l) (r : Related s l) where
-  tick-carried : (pool out : List Float) → refusal l (Calls.tick pool out) ≡ none
-      → Related (renderedTick pool s) (accept l (Calls.tick pool out) .ledger) × (renderedTickOut pool s out ≡ accept l (Calls.tick pool out) .reply .out)
+  tick-carried : (order : MixOrder) (pool out : List Float) → refusal l (Calls.tick order pool out) ≡ none
+      → Related (renderedTick order pool s) (accept l (Calls.tick order pool out) .ledger) × (renderedTickOut order pool s out ≡ accept l (Calls.tick order pool out) .reply .out)
   unfolding Rendering.ticks Rendering.tickOuts Steps.step Steps.decide
-  tick-carried pool out h =
-      let c = Calls.tick pool out in
+  tick-carried order pool out h =
+      let c = Calls.tick order pool out in
       let n = tickRefusal (length out) (s .outputs) (s .time) (s .«sample_duration») in
       let P : ℕ → Option ℕ → Type 0 = λ m o.
-      Claim.Keeps (EngineClaim.gives (cond (eqb m 0) (Engine.accepts (renderedTick pool s)) (Engine.refuses s m)) (cond (eqb m 0) (renderedTickOut pool s out) out)) (Steps.decide o l c) in
-      let z : n ≡ 0 = subst (Agrees n) h (tick-refused l pool out (s .outputs) (s .time) (s .«sample_duration») (r .plain .4) (r .plain .0) (r .plain .3)) in
-      let k : P 0 none = subst (P 0) h (subst (λ (m : ℕ). P m (refusal l c)) z (Claim.keep-tick s l pool out w r)) in
+      Claim.Keeps (EngineClaim.gives (cond (eqb m 0) (Engine.accepts (renderedTick order pool s)) (Engine.refuses s m)) (cond (eqb m 0) (renderedTickOut order pool s out) out)) (Steps.decide o l c) in
+      let z : n ≡ 0 = subst (Agrees n) h (tick-refused l order pool out (s .outputs) (s .time) (s .«sample_duration») (r .plain .4) (r .plain .0) (r .plain .3)) in
+      let k : P 0 none = subst (P 0) h (subst (λ (m : ℕ). P m (refusal l c)) z (Claim.keep-tick s l order pool out w r)) in
       (k .0, k .1 .out)
 
-  block-carried : (n : ℕ) (pool out : List Float) → refusal l (Calls.block n pool out none) ≡ none
-      → Related (renderedBlock pool n s) (accept l (Calls.block n pool out none) .ledger) × (renderedBlockOut pool n s out ≡ accept l (Calls.block n pool out none) .reply .out) × (renderedPlaces n s ≡ blockPlaces l n)
+  block-carried : (order : MixOrder) (n : ℕ) (pool out : List Float) → refusal l (Calls.block order n pool out none) ≡ none
+      → Related (renderedBlock order pool n s) (accept l (Calls.block order n pool out none) .ledger) × (renderedBlockOut order pool n s out ≡ accept l (Calls.block order n pool out none) .reply .out) × (renderedPlaces order n s ≡ blockPlaces l n)
   unfolding accept Rendering.blocks Rendering.blockOuts Steps.step Steps.decide
-  block-carried size pool out h =
-      let c = Calls.block size pool out none in
+  block-carried order size pool out h =
+      let c = Calls.block order size pool out none in
       let n = processRefusal size (length out) (s .outputs) (s .time) (s .«sample_duration») in
       let P : ℕ → Option ℕ → Type 0 = λ m o.
-      Claim.Keeps (EngineClaim.gives (cond (eqb m 0) (Engine.renders (renderedBlock pool size s) (renderedPlaces size s)) (Engine.refuses s m)) (cond (eqb m 0) (renderedBlockOut pool size s out) out)) (Steps.decide o l c) in
-      let z : n ≡ 0 = subst (Agrees n) h (block-refused l size pool out (s .outputs) (s .time) (s .«sample_duration») (r .plain .4) (r .plain .0) (r .plain .3)) in
-      let k : P 0 none = subst (P 0) h (subst (λ (m : ℕ). P m (refusal l c)) z (Claim.keep-block s l size pool out w r)) in
+      Claim.Keeps (EngineClaim.gives (cond (eqb m 0) (Engine.renders (renderedBlock order pool size s) (renderedPlaces order size s)) (Engine.refuses s m)) (cond (eqb m 0) (renderedBlockOut order pool size s out) out)) (Steps.decide o l c) in
+      let z : n ≡ 0 = subst (Agrees n) h (block-refused l order size pool out (s .outputs) (s .time) (s .«sample_duration») (r .plain .4) (r .plain .0) (r .plain .3)) in
+      let k : P 0 none = subst (P 0) h (subst (λ (m : ℕ). P m (refusal l c)) z (Claim.keep-block s l order size pool out w r)) in
       (k .0, k .1 .out, ap placesIn (k .1 .answer))
 
 -- ---- the desk
@@ -97,11 +98,11 @@ module _ (d : SequencerBackend) (D : Desk) (w : DeskLawful D) (r : DeskRelated d
       (past-related m (withEngine (drained d) s) (withBack l (Plain.drained D)) v
       (empty-related (drained d) (Plain.drained D) s l (drained d .returned) (Plain.drained D .returned) (drained-empty D) g h (g .returns)))
 
-  pub keep-tick : (pool out : List Float) → Keeps (gives (ticks pool (length out) d) (tickOuts pool d out)) (step D (back (tick pool out)))
+  pub keep-tick : (order : MixOrder) (pool out : List Float) → Keeps (gives (ticks order pool (length out) d) (tickOuts order pool d out)) (step D (back (tick order pool out)))
   unfolding ticks tickOuts deskRefusal carriedOut acts accept advance
-  keep-tick pool out =
-      by-refusal d D (back (tick pool out)) N X r
-      (tick-refused (D .back) pool out (s .outputs) (s .time) (s .«sample_duration») (r .engine .plain .4) (r .engine .plain .0) (r .engine .plain .3)) refl carried
+  keep-tick order pool out =
+      by-refusal d D (back (tick order pool out)) N X r
+      (tick-refused (D .back) order pool out (s .outputs) (s .time) (s .«sample_duration») (r .engine .plain .4) (r .engine .plain .0) (r .engine .plain .3)) refl carried
     where
       s : Sequencer
       s = d .sequencer
@@ -113,22 +114,22 @@ module _ (d : SequencerBackend) (D : Desk) (w : DeskLawful D) (r : DeskRelated d
       b = drained d .sequencer
 
       X : Bool → SequencerBackend × Reply
-      X t = gives (cond t (accepts (pastSent (withEngine (drained d) (renderedTick pool b)))) (refuses d N)) (cond t (renderedTickOut pool b out) out)
+      X t = gives (cond t (accepts (pastSent (withEngine (drained d) (renderedTick order pool b)))) (refuses d N)) (cond t (renderedTickOut order pool b out) out)
 
-      carried : refusal (D .back) (Calls.tick pool out) ≡ none → Keeps (X true) (acts (Plain.drained D) (tick pool out))
+      carried : refusal (D .back) (Calls.tick order pool out) ≡ none → Keeps (X true) (acts (Plain.drained D) (tick order pool out))
       carried h =
           let l = Plain.drained D .back in
-          let f = drained-free D w (tick pool out) h in
-          let c = tick-carried b l law now pool out f in (
-            after-rendering (renderedTick pool b) (accept l (Calls.tick pool out) .ledger) (l .mode) refl (accept-lawful l (Calls.tick pool out) f law) (c .0),
+          let f = drained-free D w (tick order pool out) h in
+          let c = tick-carried b l law now order pool out f in (
+            after-rendering (renderedTick order pool b) (accept l (Calls.tick order pool out) .ledger) (l .mode) refl (accept-lawful l (Calls.tick order pool out) f law) (c .0),
             ap (λ (x : List Float). record { answer = done; out = x }) (c .1),
           )
 
-  pub keep-block : (n : ℕ) (pool out : List Float) → Keeps (gives (blocks pool n (length out) d) (blockOuts pool n d out)) (step D (back (block n pool out)))
+  pub keep-block : (order : MixOrder) (n : ℕ) (pool out : List Float) → Keeps (gives (blocks order pool n (length out) d) (blockOuts order pool n d out)) (step D (back (block order n pool out)))
   unfolding blocks blockOuts deskRefusal carriedOut acts accept advance
-  keep-block n pool out =
-      by-refusal d D (back (block n pool out)) N X r
-      (block-refused (D .back) n pool out (s .outputs) (s .time) (s .«sample_duration») (r .engine .plain .4) (r .engine .plain .0) (r .engine .plain .3)) refl carried
+  keep-block order n pool out =
+      by-refusal d D (back (block order n pool out)) N X r
+      (block-refused (D .back) order n pool out (s .outputs) (s .time) (s .«sample_duration») (r .engine .plain .4) (r .engine .plain .0) (r .engine .plain .3)) refl carried
     where
       s : Sequencer
       s = d .sequencer
@@ -140,14 +141,14 @@ module _ (d : SequencerBackend) (D : Desk) (w : DeskLawful D) (r : DeskRelated d
       b = drained d .sequencer
 
       X : Bool → SequencerBackend × Reply
-      X t = gives (cond t (renders (renderedPlaces n b) (pastSent (withEngine (drained d) (renderedBlock pool n b)))) (refuses d N)) (cond t (renderedBlockOut pool n b out) out)
+      X t = gives (cond t (renders (renderedPlaces order n b) (pastSent (withEngine (drained d) (renderedBlock order pool n b)))) (refuses d N)) (cond t (renderedBlockOut order pool n b out) out)
 
-      carried : refusal (D .back) (Calls.block n pool out none) ≡ none → Keeps (X true) (acts (Plain.drained D) (block n pool out))
+      carried : refusal (D .back) (Calls.block order n pool out none) ≡ none → Keeps (X true) (acts (Plain.drained D) (block order n pool out))
       carried h =
           let l = Plain.drained D .back in
-          let f = drained-free D w (block n pool out) h in
-          let c = block-carried b l law now n pool out f in (
-            after-rendering (renderedBlock pool n b) (accept l (Calls.block n pool out none) .ledger) (l .mode) refl (accept-lawful l (Calls.block n pool out none) f law) (c .0),
+          let f = drained-free D w (block order n pool out) h in
+          let c = block-carried b l law now order n pool out f in (
+            after-rendering (renderedBlock order pool n b) (accept l (Calls.block order n pool out none) .ledger) (l .mode) refl (accept-lawful l (Calls.block order n pool out none) f law) (c .0),
             ap₂ (λ (x : List Float) (p : Placings). record { answer = rendered p; out = x }) (c .1) (c .2),
           )
 

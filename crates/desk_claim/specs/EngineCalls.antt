@@ -34,8 +34,8 @@ abbrev pub deskCall : SequencerBackend → Call → SequencerBackend × Reply
 deskCall d (front (push kind start end fade-in fade-out curve source gain)) = gives (pushes kind d start end curve fade-in fade-out source gain) []
 deskCall d (front (edit kind k end fade-out)) = gives (edits kind d (record { 0 = k }) end fade-out) []
 deskCall d (front reset) = gives (resets d) []
-deskCall d (back (tick pool out)) = gives (ticks pool (length out) d) (tickOuts pool d out)
-deskCall d (back (block n pool out)) = gives (blocks pool n (length out) d) (blockOuts pool n d out)
+deskCall d (back (tick order pool out)) = gives (ticks order pool (length out) d) (tickOuts order pool d out)
+deskCall d (back (block order n pool out)) = gives (blocks order pool n (length out) d) (blockOuts order pool n d out)
 deskCall d (back (rate r)) = gives (rates d r) []
 deskCall d (back reset) = gives (accepts (Handling.reset d)) []
 

@@ -66,14 +66,14 @@ refused-unchanged d (front (edit kind m end fade-out)) k h =
     let x : Edit = record { «end_time» = end; «fade_out» = fade-out } in
     by-test d k n (eqb n 0) (record { backend = queuedWith (editMessage (endRelative kind) (record { 0 = m }) x) d; answer = said queued }) (λ b. []) refl h
 refused-unchanged d (front reset) k h = by-full d k (leb 64 (d .messages .count)) (record { backend = queuedWith Reset d; answer = said queued }) refl h
-refused-unchanged d (back (tick pool out)) k h =
+refused-unchanged d (back (tick order pool out)) k h =
     let n = tickNo d (length out) in
     let b = drained d in
-    by-test d k n (eqb n 0) (accepts (pastSent (withEngine b (renderedTick pool (b .sequencer))))) (λ t. cond t (renderedTickOut pool (b .sequencer) out) out) refl h
-refused-unchanged d (back (block m pool out)) k h =
+    by-test d k n (eqb n 0) (accepts (pastSent (withEngine b (renderedTick order pool (b .sequencer))))) (λ t. cond t (renderedTickOut order pool (b .sequencer) out) out) refl h
+refused-unchanged d (back (block order m pool out)) k h =
     let n = blockNo d m (length out) in
     let b = drained d in
-    by-test d k n (eqb n 0) (renders (renderedPlaces m (b .sequencer)) (pastSent (withEngine b (renderedBlock pool m (b .sequencer))))) (λ t. cond t (renderedBlockOut pool m (b .sequencer) out) out) refl h
+    by-test d k n (eqb n 0) (renders (renderedPlaces order m (b .sequencer)) (pastSent (withEngine b (renderedBlock order pool m (b .sequencer))))) (λ t. cond t (renderedBlockOut order pool m (b .sequencer) out) out) refl h
 refused-unchanged d (back (rate r)) k h =
     by-test d k (rateRefusal r) (eqb (rateRefusal r) 0) (accepts (withEngine (drained d) (reRated (drained d .sequencer) r))) (λ b. []) refl h
 refused-unchanged d (back reset) k h = never k (ap refusedWith (sym h))

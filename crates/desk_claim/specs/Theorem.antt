@@ -34,8 +34,8 @@ pub keep : (d : SequencerBackend) (D : Desk) (c : Call) → DeskLawful D → Des
 keep d D (front (push kind start end fade-in fade-out curve source gain)) w r = keep-push d D w r kind start end curve fade-in fade-out source gain
 keep d D (front (edit kind k end fade-out)) w r = keep-edit d D w r kind k end fade-out
 keep d D (front reset) w r = keep-reset d D w r
-keep d D (back (tick pool out)) w r = keep-tick d D w r pool out
-keep d D (back (block n pool out)) w r = keep-block d D w r n pool out
+keep d D (back (tick order pool out)) w r = keep-tick d D w r order pool out
+keep d D (back (block order n pool out)) w r = keep-block d D w r order n pool out
 keep d D (back (rate x)) w r = keep-rate d D w r x
 keep d D (back reset) w r = keep-restart d D w r
 

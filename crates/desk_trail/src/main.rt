@@ -1,8 +1,9 @@
-// Plays a desk script of at most 65,536 bytes from standard input (oracle/README.md: a tape whose kinds 01 to 05 and 0A to 0C are calls of the front and 06 to 09 of the back, with 10 for the front's reset and 11 to 13 for what is lent).
+// Plays a desk script of at most 65,536 bytes from standard input (oracle/README.md: a tape whose kinds 01 to 05 and 0A to 0C are calls of the front and 06 to 09 of the back, with 10 for the front's reset, 11 to 13 for what is lent, and 15 and 16 for marked calls).
 // Each record prints its lines as on a tape, then its answer and the whole state of the back and the queues (crate state_listing).
 mod lines;
 
 ghost use Prim.Native.Nat.{_≤_};
+use event::MixOrder;
 use realseq::Answer;
 use realseq::Outcome;
 use realseq::SequencerBackend;
@@ -70,15 +71,22 @@ fn outputs(d: SequencerBackend) -> usize {
     s.outputs
 }
 
-fn tick(d: SequencerBackend, length: usize, pool: &[f32], samples: &mut [f32]) -> Played {
+fn tick(
+    d: SequencerBackend,
+    order: MixOrder,
+    length: usize,
+    pool: &[f32],
+    samples: &mut [f32],
+) -> Played {
     let channels = outputs(d);
     let n = least(length, samples.len());
-    let r = d.tick(pool, &mut samples[..n]);
+    let r = d.tick(order, pool, &mut samples[..n]);
     sounding(r, channels, 1, 1)
 }
 
 fn process(
     d: SequencerBackend,
+    order: MixOrder,
     size: usize,
     length: usize,
     pool: &[f32],
@@ -86,8 +94,25 @@ fn process(
 ) -> Played {
     let channels = outputs(d);
     let n = least(length, samples.len());
-    let r = d.process(size, pool, &mut samples[..n]);
+    let r = d.process(order, size, pool, &mut samples[..n]);
     sounding(r, channels, size, 64)
+}
+
+// A tick and a block that are lent as much as they want.
+fn whole_tick(d: SequencerBackend, order: MixOrder, pool: &[f32], samples: &mut [f32]) -> Played {
+    let n = outputs(d);
+    tick(d, order, n, pool, samples)
+}
+
+fn whole_block(
+    d: SequencerBackend,
+    order: MixOrder,
+    size: u8,
+    pool: &[f32],
+    samples: &mut [f32],
+) -> Played {
+    let length = 64 * least(outputs(d), 8);
+    process(d, order, size as usize, length, pool, samples)
 }
 
 fn create(channels: u8, mode: event::ReplayMode, first: u64) -> Played {
@@ -143,20 +168,14 @@ fn play(d: SequencerBackend, call: Call, pool: &[f32], samples: &mut [f32]) -> P
             let id = p.id;
             silent(d.edit_relative(id, p.end_time, p.fade_out))
         }
-        Call::Tick => {
-            let n = outputs(d);
-            tick(d, n, pool, samples)
-        }
-        Call::Process(n) => {
-            let length = 64 * least(outputs(d), 8);
-            process(d, n as usize, length, pool, samples)
-        }
+        Call::Tick => whole_tick(d, MixOrder::Forward, pool, samples),
+        Call::Process(n) => whole_block(d, MixOrder::Forward, n, pool, samples),
         Call::Reset => quiet(d.reset(), Answer::Done),
         Call::SetSampleRate(rate) => silent(d.set_sample_rate(rate)),
     }
 }
 
-// ---- the kinds of a script: 10 the front's reset, 11 a tick and 12 a block with an output of a given length, 13 the pool's length
+// ---- the kinds of a script: 10 the front's reset, 11 a tick and 12 a block with an output of a given length, 13 the pool's length, 15 a tick and 16 a block with the mark
 
 // A record's size, or 0 where the tape's reader reads it: the first record, and every other kind.
 fn script_size(first: bool, kind: u8) -> usize {
@@ -168,6 +187,8 @@ fn script_size(first: bool, kind: u8) -> usize {
         17 => 3,
         18 => 6,
         19 => 3,
+        21 => 1,
+        22 => 2,
         _ => 0,
     }
 }
@@ -210,8 +231,17 @@ fn play_script(
 ) -> Played {
     match kind {
         16 => silent(d.queue_reset()),
-        17 => tick(d, short(bs, 1), pool, samples),
-        18 => process(d, byte_at(bs, 1) as usize, short(bs, 2), pool, samples),
+        17 => tick(d, MixOrder::Forward, short(bs, 1), pool, samples),
+        18 => process(
+            d,
+            MixOrder::Forward,
+            byte_at(bs, 1) as usize,
+            short(bs, 2),
+            pool,
+            samples,
+        ),
+        21 => whole_tick(d, MixOrder::Backward, pool, samples),
+        22 => whole_block(d, MixOrder::Backward, byte_at(bs, 1), pool, samples),
         _ => quiet(d, Answer::Done),
     }
 }

@@ -35,6 +35,26 @@ pub addAll-append : (c : Placings) (l m : List Placing) → addAll c (l ++ m) �
 addAll-append c [] m = refl
 addAll-append c (p ∷ l) m = addAll-append (oneMore c p) l m
 
+-- the order does not count
+more-swap : (c : Placings) (p q : Placing) → oneMore (oneMore c p) q ≡ oneMore (oneMore c q) p
+more-swap c Kept Kept = refl
+more-swap c Kept Forced = refl
+more-swap c Kept Edge = refl
+more-swap c Forced Kept = refl
+more-swap c Forced Forced = refl
+more-swap c Forced Edge = refl
+more-swap c Edge Kept = refl
+more-swap c Edge Forced = refl
+more-swap c Edge Edge = refl
+
+addAll-late : (c : Placings) (p : Placing) (l : List Placing) → oneMore (addAll c l) p ≡ addAll (oneMore c p) l
+addAll-late c p [] = refl
+addAll-late c p (q ∷ l) = addAll-late (oneMore c q) p l ∙ ap (λ (d : Placings). addAll d l) (more-swap c q p)
+
+pub addAll-swap : (c : Placings) (l m : List Placing) → addAll (addAll c l) m ≡ addAll (addAll c m) l
+addAll-swap c l [] = refl
+addAll-swap c l (p ∷ m) = ap (λ (d : Placings). addAll d m) (addAll-late c p l) ∙ addAll-swap (oneMore c p) l m
+
 -- ---- each place counts once, and below 2 ^ 64 both ways of counting agree
 
 pub tally-length : (l : List Placing) → tally l .kept + tally l .forced + tally l .edge ≡ length l

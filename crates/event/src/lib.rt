@@ -35,6 +35,12 @@ pub enum ReplayMode {
     None,
 }
 
+// The order in which a tick or block adds the sounding events: as their list has them, or, with document 02's mark (Paper 9), from its end.
+pub enum MixOrder {
+    Forward,
+    Backward,
+}
+
 // What an event plays: a held level; a ramp's first value and its step; a clip's offset and length in the pool.
 pub enum Source {
     Held(f32),

@@ -118,7 +118,7 @@ afterBlock b e =
     let z = endPlace b e in
     cond (ltb s z) (withUnit (advancedBy (e .unit) (z - s)) e) e
 
--- ---- all sounding events, in S order: one channel, the run given last, and the events after the block
+-- ---- all sounding events, in S order or with the mark from its end: one channel, the run given last, and the events after the block
 
 pub record BlockSum : Type 0 where
   pub channel : List Float

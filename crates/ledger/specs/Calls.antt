@@ -5,6 +5,7 @@ use mathlib.Core.List.{List}
 use mathlib.Core.Option.{Option}
 use lib.Ieee.{Float}
 use Rattle.event.specs.declared.Fade.{Fade}
+use Rattle.event.specs.declared.MixOrder.{MixOrder}
 use Rattle.event.specs.declared.Placings.{Placings}
 use Rattle.event.specs.declared.Source.{Source}
 
@@ -26,11 +27,12 @@ abbrev pub endRelative : EditKind → Bool
 endRelative absoluteEnd = false
 endRelative relativeEnd = true
 
+-- Document 02, Paper 9: a tick or block has the mark where its order is `Backward`.
 pub data Call : Type 0 where
   push : PushKind → (start end fade-in fade-out : Float) → Fade → Source → (gain : Float) → Call
   edit : EditKind → (number : ℕ) → (end fade-out : Float) → Call
-  tick : (pool out : List Float) → Call
-  block : (size : ℕ) → (pool out : List Float) → (scratch : Option (List Float)) → Call
+  tick : MixOrder → (pool out : List Float) → Call
+  block : MixOrder → (size : ℕ) → (pool out : List Float) → (scratch : Option (List Float)) → Call
   rate : Float → Call
   reset : Call
 

@@ -8,6 +8,7 @@ use lib.ListN.{replicate}
 use lib.Ieee.{Float, fin, round, toBits, binary32, binary64}
 use Rattle.floats.specs.Arithmetic.{zeroᶠ, oneᶠ, whole}
 use Rattle.event.specs.declared.Fade.the-variants.{Smooth}
+use Rattle.event.specs.declared.MixOrder.the-variants.{Forward}
 use Rattle.event.specs.declared.ReplayMode.the-variants.{All}
 use Rattle.event.specs.declared.Source.the-variants.{Held}
 use Rattle.ledger.specs.Calls.{Call, push, tick, block, rate, absolute, Answer, rendered, Reply}
@@ -34,10 +35,10 @@ held1 start end fade-in fade-out = push absolute start end fade-in fade-out Smoo
 
 -- a tick, and a block of n samples, of one channel
 abbrev pub one-tick : Call
-one-tick = tick [] (zeroᶠ ∷ [])
+one-tick = tick Forward [] (zeroᶠ ∷ [])
 
 abbrev pub blockOf : (n : ℕ) → Call
-blockOf n = block n [] (replicate 64 zeroᶠ) none
+blockOf n = block Forward n [] (replicate 64 zeroᶠ) none
 
 abbrev pub answersOf : List Reply → List Answer
 answersOf [] = []

@@ -10,6 +10,7 @@ use lib.Ieee.{Float, nan, fin, neg, toBits}
 use Rattle.floats.specs.Arithmetic.{zeroᶠ, oneᶠ, halfᶠ, +∞, -∞, whole}
 use Rattle.event.specs.declared.Event.{Event}
 use Rattle.event.specs.declared.Fade.the-variants.{Smooth}
+use Rattle.event.specs.declared.MixOrder.the-variants.{Forward}
 use Rattle.event.specs.declared.ReplayMode.the-variants.{All}
 use Rattle.event.specs.declared.Source.{Source}
 use Rattle.event.specs.declared.Source.the-variants.{Held, Ramp, Clip}
@@ -32,8 +33,8 @@ pub gain-multiplies :
     let pool : List Float = fin false 1 (negsuc 1) ∷ halfᶠ ∷ [] in
     (ticksAt (whole 8) 2 (playing zeroᶠ (Held (fin false 3 (pos 0))) halfᶠ) ≡ 0x3fc00000 ∷ 0x3fc00000 ∷ [])
     × (blockAt (whole 8) 2 (playing zeroᶠ (Held (fin false 3 (pos 0))) (neg halfᶠ)) ≡ 0xbfc00000 ∷ 0xbfc00000 ∷ [])
-    × (outsOf (drop 1 (repliesOf (cs ++ replicate 2 (tick pool (zeroᶠ ∷ []))))) ≡ halfᶠ ∷ oneᶠ ∷ [])
-    × (take 3 (lastOut (repliesOf (cs ++ (block 3 pool (replicate 64 zeroᶠ) none ∷ [])))) ≡ halfᶠ ∷ oneᶠ ∷ zeroᶠ ∷ [])
+    × (outsOf (drop 1 (repliesOf (cs ++ replicate 2 (tick Forward pool (zeroᶠ ∷ []))))) ≡ halfᶠ ∷ oneᶠ ∷ [])
+    × (take 3 (lastOut (repliesOf (cs ++ (block Forward 3 pool (replicate 64 zeroᶠ) none ∷ [])))) ≡ halfᶠ ∷ oneᶠ ∷ zeroᶠ ∷ [])
 unfolding ticksAt blockAt repliesOf whole neg
 gain-multiplies = (refl, refl, refl, refl)
 

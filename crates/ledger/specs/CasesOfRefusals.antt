@@ -9,6 +9,7 @@ use lib.ListN.{length, drop, replicate}
 use lib.Ieee.{Float, nan, fin, neg}
 use Rattle.floats.specs.Arithmetic.{zeroᶠ, oneᶠ, halfᶠ, +∞, -∞, whole}
 use Rattle.event.specs.declared.Fade.the-variants.{Smooth}
+use Rattle.event.specs.declared.MixOrder.the-variants.{Forward}
 use Rattle.event.specs.declared.ReplayMode.the-variants.{All, None}
 use Rattle.event.specs.declared.Source.{Source}
 use Rattle.event.specs.declared.Source.the-variants.{Held, Ramp, Clip}
@@ -132,10 +133,10 @@ refusal-9 = refl
 -- ---- 10. "Output length is not channels (tick) or 64 × channels (block), or a block's scratch, where it is lent", is not 64 long (Paper 7). Two channels; the last two answers are those of too long a block with too short an output, and with a scratch of 64 × channels.
 
 abbrev tickInto : (length : ℕ) → Call
-tickInto n = tick [] (replicate n halfᶠ)
+tickInto n = tick Forward [] (replicate n halfᶠ)
 
 abbrev blockInto : (size length : ℕ) → Option (List Float) → Call
-blockInto size n scratch = block size [] (replicate n halfᶠ) scratch
+blockInto size n scratch = block Forward size [] (replicate n halfᶠ) scratch
 
 unfoldable pub stereo : List Call → List Reply
 unfolding run fresh

@@ -10,6 +10,7 @@ use lib.Ieee.{Float, fin, neg}
 use Rattle.floats.specs.Arithmetic.{zeroᶠ, oneᶠ, halfᶠ, whole}
 use Rattle.event.specs.declared.Event.{Event}
 use Rattle.event.specs.declared.Fade.the-variants.{Smooth}
+use Rattle.event.specs.declared.MixOrder.the-variants.{Forward}
 use Rattle.event.specs.declared.ReplayMode.the-variants.{All}
 use Rattle.event.specs.declared.Source.{Source}
 use Rattle.event.specs.declared.Source.the-variants.{Held, Ramp, Clip}
@@ -52,7 +53,7 @@ sum-rounds = (refl, refl)
 -- "Outputs start at +0.0": a level of -0.0 added to it is +0.0, whatever was lent.
 pub outputs-start-at-zero :
     let e : Call = level (fin true 0 (pos 0)) in
-    (lastOut (repliesOf (e ∷ tick [] (halfᶠ ∷ []) ∷ [])) ≡ zeroᶠ ∷ []) × (take 1 (lastOut (repliesOf (e ∷ block 1 [] (replicate 64 halfᶠ) none ∷ []))) ≡ zeroᶠ ∷ [])
+    (lastOut (repliesOf (e ∷ tick Forward [] (halfᶠ ∷ []) ∷ [])) ≡ zeroᶠ ∷ []) × (take 1 (lastOut (repliesOf (e ∷ block Forward 1 [] (replicate 64 halfᶠ) none ∷ []))) ≡ zeroᶠ ∷ [])
 unfolding repliesOf
 outputs-start-at-zero = (refl, refl)
 
@@ -66,13 +67,13 @@ clip-and-ramp = rate (whole 8) ∷ playing zeroᶠ oneᶠ (Clip 1 3) ∷ playing
 abbrev lent : ℕ → List Float
 lent n = replicate n quarter
 
-abbrev lastReply : List Reply → Option Reply
+abbrev pub lastReply : List Reply → Option Reply
 lastReply [] = none
 lastReply (r ∷ []) = some r
 lastReply (r ∷ (q ∷ l)) = lastReply (q ∷ l)
 
 -- "One value feeds all channels."
-pub tick-outputs : lastOut (run (clip-and-ramp ++ (tick pool (lent 2) ∷ tick pool (lent 2) ∷ [])) (fresh 2 All 1) .replies) ≡ fin false 7 (negsuc 1) ∷ fin false 7 (negsuc 1) ∷ []
+pub tick-outputs : lastOut (run (clip-and-ramp ++ (tick Forward pool (lent 2) ∷ tick Forward pool (lent 2) ∷ [])) (fresh 2 All 1) .replies) ≡ fin false 7 (negsuc 1) ∷ fin false 7 (negsuc 1) ∷ []
 unfolding run fresh whole
 tick-outputs = refl
 
@@ -86,7 +87,7 @@ run-given = oneᶠ ∷ fin false 3 (negsuc 0) ∷ lent 62
 
 unfoldable pub blockReplies : (n : ℕ) → List Reply
 unfolding run fresh whole
-blockReplies n = run (clip-and-ramp ++ (block n pool (lent 128) (some (lent 64)) ∷ [])) (fresh 2 All 1) .replies
+blockReplies n = run (clip-and-ramp ++ (block Forward n pool (lent 128) (some (lent 64)) ∷ [])) (fresh 2 All 1) .replies
 
 pub block-outputs : lastReply (blockReplies 3) ≡ some (record { answer = places 1 0 3; out = row ++ row; scratch = some run-given; filled = 2 })
 unfolding blockReplies
@@ -110,7 +111,7 @@ pub nothing-given :
     let cs : List Call = level oneᶠ ∷ playing quarter quarter (Ramp oneᶠ oneᶠ) ∷ [] in
     (take 4 (lastOut (repliesOf (cs ++ (blockOf 4 ∷ [])))) ≡ replicate 4 oneᶠ)
     × (valuesOf (ledgerOf (cs ++ (blockOf 4 ∷ [])) .sounding) ≡ oneᶠ ∷ oneᶠ ∷ [])
-    × (lastReply (repliesOf (cs ++ (block 4 [] (lent 64) (some (lent 64)) ∷ []))) ≡ some (record { answer = places 2 0 2; out = replicate 4 oneᶠ ++ (replicate 4 zeroᶠ ++ lent 56); scratch = some (replicate 4 oneᶠ ++ lent 60); filled = 4 }))
+    × (lastReply (repliesOf (cs ++ (block Forward 4 [] (lent 64) (some (lent 64)) ∷ []))) ≡ some (record { answer = places 2 0 2; out = replicate 4 oneᶠ ++ (replicate 4 zeroᶠ ++ lent 56); scratch = some (replicate 4 oneᶠ ++ lent 60); filled = 4 }))
 unfolding repliesOf ledgerOf
 nothing-given = (refl, refl, refl)
 

@@ -148,8 +148,8 @@ isLent (some l) = true
 abbrev pub Lends : (lends : Bool) → Call → Type 0
 Lends b (push kind start end fade-in fade-out curve source gain) = Unit {0}
 Lends b (edit kind k end fade-out) = Unit {0}
-Lends b (tick pool out) = Unit {0}
-Lends b (block n pool out scratch) = isLent scratch ≡ b
+Lends b (tick order pool out) = Unit {0}
+Lends b (block order n pool out scratch) = isLent scratch ≡ b
 Lends b (rate r) = Unit {0}
 Lends b reset = Unit {0}
 

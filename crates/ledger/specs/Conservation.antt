@@ -59,8 +59,8 @@ module _ (w : Float → ℕ → ℕ) where
 pub refused-none : (c : Call) (k : ℕ) → acceptedOf (refusedReply k c .answer) ≡ []
 refused-none (push kind start end fade-in fade-out curve source gain) k = refl
 refused-none (edit kind n end fade-out) k = refl
-refused-none (tick pool out) k = refl
-refused-none (block n pool out scratch) k = refl
+refused-none (tick order pool out) k = refl
+refused-none (block order n pool out scratch) k = refl
 refused-none (rate r) k = refl
 refused-none reset k = refl
 
@@ -106,10 +106,10 @@ module _ (u : ℕ → ℕ) where
       omega (arith, heldSum-enter byNumber l (newEvent (pushedTime kind (l .clock) start) (pushedTime kind (l .clock) (statedEnd kind start end)) fade-in fade-out curve source gain (l .next)))
   accept-adds l (edit kind k end fade-out) =
       change-adds l k (record { «end_time» = editEnd kind (l .clock) end; «fade_out» = fade-out }) (has k (l .sounding)) (editEnd kind (l .clock) end <ᶠ l .threshold)
-  accept-adds l (tick pool out) =
+  accept-adds l (tick order pool out) =
       let m = advance l (tickEnd l) in
       omega (arith, fourSum-advance l (tickEnd l), eventSum-tick byNumber pool (l .clock) (m .sounding) zeroᶠ)
-  accept-adds l (block n pool out scratch) =
+  accept-adds l (block order n pool out scratch) =
       let m = advance l (blockEnd l n) in
       omega (arith, fourSum-advance l (blockEnd l n), eventSum-block byNumber pool (spanOf l n) (m .sounding) (cleared n) [])
   accept-adds l (rate r) = omega (arith, fourSum-setRate l r (eq (l .rate) r))

@@ -11,12 +11,13 @@ use lib.Ieee.{Float}
 use lib.ListN.{length, take, drop, length-replicate}
 use Rattle.floats.specs.Arithmetic.{_+ˢ_, zeroᶠ}
 use Rattle.event.specs.declared.Event.{Event}
+use Rattle.event.specs.declared.MixOrder.{MixOrder}
 use Rattle.ledger.specs.BlockSamples.{Span, endPlace, firstPlace, fadedRun, addAt, channelAfter, scratchAfter, afterBlock, blockSum, overlay}
 use Rattle.ledger.specs.Calls.{block}
 use Rattle.ledger.specs.FadesByPlace.{length-faded-run}
 use Rattle.ledger.specs.Ledger.{Ledger}
 use Rattle.ledger.specs.Refusals.{blockEnd}
-use Rattle.ledger.specs.Steps.{advance, spanOf, withSounding, cleared, accept}
+use Rattle.ledger.specs.Steps.{advance, inOrder, spanOf, withSounding, cleared, accept}
 use Rattle.ledger.specs.WithinBlock.{end-within}
 
 -- ---- the former method: 64 scratch samples for every channel, and every channel filled, faded and added by itself
@@ -26,7 +27,7 @@ unfoldable pub everyChannel : (List Float → List Float) → (c : ℕ) → List
 everyChannel f zero l = l
 everyChannel f (suc c) l = f (take 64 l) ++ everyChannel f c (drop 64 l)
 
--- the channel's first 8 × ceil(n/8) places become +0.0, the rest remains; then each event's faded run is added to it, in S order
+-- the channel's first 8 × ceil(n/8) places become +0.0, the rest remains; then each event's faded run is added to it, in the list's order
 abbrev pub mixed : (pool : List Float) → Span → List Event → (channel : List Float) → List Float
 mixed pool b [] channel = channel
 mixed pool b (e ∷ l) channel = mixed pool b l (channelAfter pool b e channel)
@@ -45,20 +46,21 @@ filled pool b (e ∷ l) scratch =
     let z = endPlace b e in
     filled pool b l (cond (ltb s z) (written (fadedRun pool b s z e) scratch) scratch)
 
--- a block: the lists move as ever, the sources move on once
+-- a block, marked or not: the lists move as ever, the sources move on once
 pub record Former : Type 0 where
   pub ledger : Ledger
   pub out : List Float
   pub scratch : List Float
 
-unfoldable pub formerBlock : Ledger → (n : ℕ) → (pool out scratch : List Float) → Former
-formerBlock l n pool out scratch =
+unfoldable pub formerBlock : Ledger → MixOrder → (n : ℕ) → (pool out scratch : List Float) → Former
+formerBlock l order n pool out scratch =
     let m = advance l (blockEnd l n) in
     let b = spanOf l n in
+    let s = inOrder order (m .sounding) in
     record {
       ledger = withSounding m (map (afterBlock b) (m .sounding));
-      out = everyChannel (λ channel. mixed pool b (m .sounding) (clearedFirst n channel)) (l .channels) out;
-      scratch = everyChannel (filled pool b (m .sounding)) (l .channels) scratch;
+      out = everyChannel (λ channel. mixed pool b s (clearedFirst n channel)) (l .channels) out;
+      scratch = everyChannel (filled pool b s) (l .channels) scratch;
     }
 
 -- the first k of a lent scratch
@@ -120,7 +122,7 @@ module _ (pool : List Float) (b : Span) where
       ap (mixed pool b l) (channel-before e xs ys h)
       ∙ mixed-before l (channelAfter pool b e xs) ys (scratchAfter pool b e scratch) (omega (arith, length-channel e xs))
 
-  length-sum : (l : List Event) (xs scratch : List Float) → length (blockSum pool b l xs scratch .channel) ≡ length xs
+  pub length-sum : (l : List Event) (xs scratch : List Float) → length (blockSum pool b l xs scratch .channel) ≡ length xs
   unfolding blockSum
   length-sum [] xs scratch = refl
   length-sum (e ∷ l) xs scratch = length-sum l (channelAfter pool b e xs) (scratchAfter pool b e scratch) ∙ length-channel e xs
@@ -161,23 +163,23 @@ module _ (pool : List Float) (b : Span) where
       go false all = all x run h
 
 -- ---- the theorem: ledger and samples, whatever is lent; and of a scratch of every channel, whatever stood in it, what the one scratch has up to the samples given
-pub same-as-former : (l : Ledger) (n : ℕ) (pool out scratch : List Float)
-    → let f = formerBlock l n pool out scratch in
-    let o = accept l (block n pool out none) in
+pub same-as-former : (l : Ledger) (order : MixOrder) (n : ℕ) (pool out scratch : List Float)
+    → let f = formerBlock l order n pool out scratch in
+    let o = accept l (block order n pool out none) in
     (f .ledger ≡ o .ledger) × (f .out ≡ o .reply .out)
 unfolding formerBlock accept
-same-as-former l n pool out scratch =
+same-as-former l order n pool out scratch =
     let m = advance l (blockEnd l n) in (
       ap (withSounding m) (events-once pool (spanOf l n) (m .sounding) (cleared n) []),
-      channels-alike pool (spanOf l n) n (m .sounding) [] (l .channels) out (omega (arith, length-replicate (8 * ((n + 7) / 8)) zeroᶠ)),
+      channels-alike pool (spanOf l n) n (inOrder order (m .sounding)) [] (l .channels) out (omega (arith, length-replicate (8 * ((n + 7) / 8)) zeroᶠ)),
     )
 
-pub same-scratch : (l : Ledger) (n : ℕ) (pool out x y : List Float)
+pub same-scratch : (l : Ledger) (order : MixOrder) (n : ℕ) (pool out x y : List Float)
     → let m = advance l (blockEnd l n) in
-    let o = accept l (block n pool out (some y)) in
-    some (take (o .reply .filled) (filled pool (spanOf l n) (m .sounding) x)) ≡ takeLent (o .reply .filled) (o .reply .scratch)
+    let o = accept l (block order n pool out (some y)) in
+    some (take (o .reply .filled) (filled pool (spanOf l n) (inOrder order (m .sounding)) x)) ≡ takeLent (o .reply .filled) (o .reply .scratch)
 unfolding accept
-same-scratch l n pool out x y =
-    let m = advance l (blockEnd l n) in
-    let r = blockSum pool (spanOf l n) (m .sounding) (cleared n) [] .scratch in
-    ap some (scratches-alike pool (spanOf l n) (m .sounding) (cleared n) x [] refl ∙ sym (take-front r (drop (length r) y)))
+same-scratch l order n pool out x y =
+    let s = inOrder order (advance l (blockEnd l n) .sounding) in
+    let r = blockSum pool (spanOf l n) s (cleared n) [] .scratch in
+    ap some (scratches-alike pool (spanOf l n) s (cleared n) x [] refl ∙ sym (take-front r (drop (length r) y)))

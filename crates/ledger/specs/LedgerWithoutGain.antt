@@ -1,8 +1,8 @@
 -- The plain ledger without gain, as document 01 has it: ticks and blocks by `WithoutGain`, every other call as it is. On any list of calls whose gains are all 1.0 the ledger is this one: answers, samples and states. Assumes nothing.
 use Prim.Native.Nat.{ℕ, zero, suc, _-_, _≤_}
-use mathlib.Core.Path.{_≡_, refl, sym, ap, _∙_, subst}
+use mathlib.Core.Path.{_≡_, refl, sym, ap, ap₂, _∙_, subst}
 use mathlib.Core.Bool.{Bool, true, false, cond}
-use mathlib.Core.List.{List, [], _∷_, _++_, map}
+use mathlib.Core.List.{List, [], _∷_, _++_, map, reverseAux}
 use mathlib.Core.Option.{Option, none, some}
 use native.Mathlib.Omega.{arith}
 use lib.Dec.{ltb, eqb}
@@ -11,6 +11,8 @@ use lib.Ieee.{Float, lt, le}
 use Rattle.event.specs.declared.Event.{Event}
 use Rattle.event.specs.declared.Edit.{Edit}
 use Rattle.event.specs.declared.StoredEdit.{StoredEdit}
+use Rattle.event.specs.declared.MixOrder.{MixOrder}
+use Rattle.event.specs.declared.MixOrder.the-variants.{Forward, Backward}
 use Rattle.event.specs.declared.ReplayMode.{ReplayMode}
 use Rattle.event.specs.declared.ReplayMode.the-variants.{All, None}
 use Rattle.event.specs.declared.Source.{Source}
@@ -25,7 +27,7 @@ use Rattle.ledger.specs.Lists.{insert, insertAll, has, editOf, dropEdit,
 use Rattle.ledger.specs.Ledger.{Ledger, fresh}
 use Rattle.ledger.specs.Refusals.{refusal, statedEnd, editEnd, tickEnd, blockEnd}
 use Rattle.ledger.specs.Steps as Gained
-use Rattle.ledger.specs.Steps.{Outcome, Run, refusedReply, pushedTime, enter, change, stays, advance, withSounding, spanOf, cleared, blockPlaces, everything, setRate, restart}
+use Rattle.ledger.specs.Steps.{Outcome, Run, refusedReply, pushedTime, enter, change, stays, advance, withSounding, inOrder, spanOf, cleared, blockPlaces, everything, setRate, restart}
 use Rattle.ledger.specs.TickSamples as Tick
 use Rattle.ledger.specs.TickSamples.{TickSum}
 use Rattle.ledger.specs.BlockSamples as Block
@@ -34,16 +36,16 @@ use Rattle.ledger.specs.WithoutGain.{tickSum, blockSum, AllSingle, Singl
 
 -- ---- the ledger without gain
 
--- what a tick and a block give, by their samples
-abbrev ticked : Ledger → TickSum → Outcome
-ticked l r = record {
-  ledger = withSounding (advance l (tickEnd l)) (r .events);
+-- what a tick and a block give, by what the sounding events make in their own order, and by what they make in the order of the call
+abbrev ticked : Ledger → (own r : TickSum) → Outcome
+ticked l own r = record {
+  ledger = withSounding (advance l (tickEnd l)) (own .events);
   reply = record { answer = done; out = replicate (l .channels) (r .out); scratch = none; filled = 64 };
 }
 
-abbrev blocked : Ledger → (n : ℕ) → (out : List Float) → (scratch : Option (List Float)) → BlockSum → Outcome
-blocked l n out scratch r = record {
-  ledger = withSounding (advance l (blockEnd l n)) (r .events);
+abbrev blocked : Ledger → (n : ℕ) → (out : List Float) → (scratch : Option (List Float)) → (own r : BlockSum) → Outcome
+blocked l n out scratch own r = record {
+  ledger = withSounding (advance l (blockEnd l n)) (own .events);
   reply = record {
     answer = rendered (blockPlaces l n);
     out = overlay (l .channels) (r .channel) out;
@@ -55,8 +57,12 @@ blocked l n out scratch r = record {
 unfoldable pub accept : Ledger → Call → Outcome
 accept l (push kind start end fade-in fade-out curve source gain) = Gained.accept l (push kind start end fade-in fade-out curve source gain)
 accept l (edit kind k end fade-out) = Gained.accept l (edit kind k end fade-out)
-accept l (tick pool out) = ticked l (tickSum pool (l .clock) (advance l (tickEnd l) .sounding) zeroᶠ)
-accept l (block n pool out scratch) = blocked l n out scratch (blockSum pool (spanOf l n) (advance l (blockEnd l n) .sounding) (cleared n) [])
+accept l (tick order pool out) =
+    let s = advance l (tickEnd l) .sounding in
+    ticked l (tickSum pool (l .clock) s zeroᶠ) (tickSum pool (l .clock) (inOrder order s) zeroᶠ)
+accept l (block order n pool out scratch) =
+    let s = advance l (blockEnd l n) .sounding in
+    blocked l n out scratch (blockSum pool (spanOf l n) s (cleared n) []) (blockSum pool (spanOf l n) (inOrder order s) (cleared n) [])
 accept l (rate r) = Gained.accept l (rate r)
 accept l reset = Gained.accept l reset
 
@@ -79,8 +85,8 @@ run (c ∷ cs) l =
 abbrev pub CallAtOne : Call → Type 0
 CallAtOne (push kind start end fade-in fade-out curve source gain) = (gain ≡ oneᶠ) × Single source (firstValue source)
 CallAtOne (edit kind k end fade-out) = Unit {0}
-CallAtOne (tick pool out) = AllSingle pool
-CallAtOne (block n pool out scratch) = AllSingle pool
+CallAtOne (tick order pool out) = AllSingle pool
+CallAtOne (block order n pool out scratch) = AllSingle pool
 CallAtOne (rate r) = Unit {0}
 CallAtOne reset = Unit {0}
 
@@ -96,6 +102,14 @@ HeldAtOne l = AllAtOne (l .waiting) × (AllAtOne (l .sounding) × AllAtOne (l .f
 append-at-one : (a b : List Event) → AllAtOne a → AllAtOne b → AllAtOne (a ++ b)
 append-at-one [] b p q = q
 append-at-one (e ∷ a) b p q = (p .0, append-at-one a b (p .1) q)
+
+reverse-at-one : (a r : List Event) → AllAtOne a → AllAtOne r → AllAtOne (reverseAux a r)
+reverse-at-one [] r p q = q
+reverse-at-one (e ∷ a) r p q = reverse-at-one a (e ∷ r) (p .1) (p .0, q)
+
+order-at-one : (o : MixOrder) (s : List Event) → AllAtOne s → AllAtOne (inOrder o s)
+order-at-one Forward s p = p
+order-at-one Backward s p = reverse-at-one s [] p tt
 
 insert-at-one : (e : Event) (w : List Event) → AtOne e → AllAtOne w → AllAtOne (insert e w)
 unfolding insert
@@ -248,10 +262,10 @@ accept-at-one l (push kind start end fade-in fade-out curve source gain) p h =
     enter-at-one l (newEvent (pushedTime kind (l .clock) start) (pushedTime kind (l .clock) (statedEnd kind start end)) fade-in fade-out curve source gain (l .next)) p h
 accept-at-one l (edit kind k end fade-out) p h =
     change-at-one l k (record { «end_time» = editEnd kind (l .clock) end; «fade_out» = fade-out }) (has k (l .sounding)) (editEnd kind (l .clock) end <ᶠ l .threshold) h
-accept-at-one l (tick pool out) p h =
+accept-at-one l (tick order pool out) p h =
     let a = advance-at-one l (tickEnd l) h in
     (a .0, (tick-events pool (l .clock) (advance l (tickEnd l) .sounding) zeroᶠ (a .1 .0), a .1 .1))
-accept-at-one l (block n pool out scratch) p h =
+accept-at-one l (block order n pool out scratch) p h =
     let a = advance-at-one l (blockEnd l n) h in
     (a .0, (block-events pool (spanOf l n) (advance l (blockEnd l n) .sounding) (cleared n) [] (a .1 .0), a .1 .1))
 accept-at-one l (rate r) p h = rate-at-one l r (l .rate ≈ᶠ r) h
@@ -261,12 +275,16 @@ same-accept : (l : Ledger) (c : Call) → CallAtOne c → HeldAtOne l → Gained
 unfolding accept Gained.accept
 same-accept l (push kind start end fade-in fade-out curve source gain) p h = refl
 same-accept l (edit kind k end fade-out) p h = refl
-same-accept l (tick pool out) p h =
-    let m = advance l (tickEnd l) in
-    ap (ticked l) (gains-of-one pool p (m .sounding) (advance-at-one l (tickEnd l) h .1 .0) .ticks (l .clock) zeroᶠ)
-same-accept l (block n pool out scratch) p h =
-    let m = advance l (blockEnd l n) in
-    ap (blocked l n out scratch) (gains-of-one pool p (m .sounding) (advance-at-one l (blockEnd l n) h .1 .0) .blocks (spanOf l n) (cleared n) [])
+same-accept l (tick order pool out) p h =
+    let s = advance l (tickEnd l) .sounding in
+    let a = advance-at-one l (tickEnd l) h .1 .0 in
+    ap₂ (ticked l) (gains-of-one pool p s a .ticks (l .clock) zeroᶠ) (gains-of-one pool p (inOrder order s) (order-at-one order s a) .ticks (l .clock) zeroᶠ)
+same-accept l (block order n pool out scratch) p h =
+    let s = advance l (blockEnd l n) .sounding in
+    let a = advance-at-one l (blockEnd l n) h .1 .0 in
+    ap₂ (blocked l n out scratch)
+    (gains-of-one pool p s a .blocks (spanOf l n) (cleared n) [])
+    (gains-of-one pool p (inOrder order s) (order-at-one order s a) .blocks (spanOf l n) (cleared n) [])
 same-accept l (rate r) p h = refl
 same-accept l reset p h = refl
 

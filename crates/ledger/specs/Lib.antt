@@ -12,6 +12,7 @@ pub mod CasesOfLimits
 pub mod CasesOfLists
 pub mod CasesOfRefusals
 pub mod CasesOfSamples
+pub mod CasesOfMixOrders
 pub mod CasesOfFades
 pub mod CasesOfPlaces
 pub mod WithinBlock
@@ -26,6 +27,7 @@ pub mod Conservation
 pub mod Partition
 pub mod Sorted
 pub mod Refused
+pub mod MixOrders
 pub mod OrderKept
 pub mod Limits
 pub mod Lawful

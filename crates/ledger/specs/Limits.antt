@@ -168,10 +168,10 @@ accept-limits l (push kind start end fade-in fade-out curve source gain) h g = r
 }
 accept-limits l (edit kind k end fade-out) h g =
     change-limits l k (record { «end_time» = editEnd kind (l .clock) end; «fade_out» = fade-out }) (has k (l .sounding)) (editEnd kind (l .clock) end <ᶠ l .threshold) (h .1 .0) g
-accept-limits l (tick pool out) h g =
+accept-limits l (tick order pool out) h g =
     let a = advance-limits l (tickEnd l) g in
     record { events = omega (arith, eventSum-tick one pool (l .clock) (advance l (tickEnd l) .sounding) zeroᶠ, a .events); edits = a .edits; once = a .once; next = a .next }
-accept-limits l (block n pool out scratch) h g =
+accept-limits l (block order n pool out scratch) h g =
     let a = advance-limits l (blockEnd l n) g in
     record {
       events = omega (arith, eventSum-block one pool (spanOf l n) (advance l (blockEnd l n) .sounding) (cleared n) [], a .events);

@@ -111,7 +111,7 @@ accept-order l (push kind start end fade-in fade-out curve source gain) h g =
     g
 accept-order l (edit kind k end fade-out) h g =
     change-order l k (record { «end_time» = editEnd kind (l .clock) end; «fade_out» = fade-out }) (has k (l .sounding)) (editEnd kind (l .clock) end <ᶠ l .threshold) g
-accept-order l (tick pool out) h g =
+accept-order l (tick order pool out) h g =
     let a = advance-order l (tickEnd l) (not-not (tickEnd l ≤ᶠ billion) (h .1 .0)) g in
     let m = advance l (tickEnd l) in
     record {
@@ -120,7 +120,7 @@ accept-order l (tick pool out) h g =
       clocked = a .clocked;
       no-nan = omega (arith, eventSum-tick nanStart pool (l .clock) (m .sounding) zeroᶠ, a .no-nan);
     }
-accept-order l (block n pool out scratch) h g =
+accept-order l (block order n pool out scratch) h g =
     let a = advance-order l (blockEnd l n) (not-not (blockEnd l n ≤ᶠ billion) (h .1 .1 .0)) g in
     let m = advance l (blockEnd l n) in
     record {

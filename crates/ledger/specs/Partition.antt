@@ -55,8 +55,8 @@ unfolding accept
 accept-numbered l (push kind start end fade-in fade-out curve source gain) = issued refl refl
 accept-numbered l (edit kind k end fade-out) =
     change-numbered l k (record { «end_time» = editEnd kind (l .clock) end; «fade_out» = fade-out }) (has k (l .sounding)) (editEnd kind (l .clock) end <ᶠ l .threshold)
-accept-numbered l (tick pool out) = same refl refl
-accept-numbered l (block n pool out scratch) = same refl refl
+accept-numbered l (tick order pool out) = same refl refl
+accept-numbered l (block order n pool out scratch) = same refl refl
 accept-numbered l (rate r) = same refl (setRate-next l r (eq (l .rate) r))
 accept-numbered l reset = same refl (restart-next l (l .mode))
 

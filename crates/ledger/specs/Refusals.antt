@@ -111,10 +111,10 @@ unfoldable pub checks : Ledger → Call → List Check
 unfolding pushChecks editChecks tickEnd blockEnd le whole
 checks l (push kind start end fade-in fade-out curve source gain) = pushChecks l kind start end fade-in fade-out source gain
 checks l (edit kind k end fade-out) = editChecks l kind k end fade-out
-checks l (tick pool out) =
+checks l (tick order pool out) =
     refuses 10 (not (eqb (length out) (l .channels)))
     ∷ refuses 12 (not (tickEnd l ≤ᶠ whole 1_000_000_000)) ∷ []
-checks l (block n pool out scratch) =
+checks l (block order n pool out scratch) =
     refuses 10 (not (eqb (length out) (64 * l .channels) && eqb (lengthOr 64 scratch) 64))
     ∷ refuses 11 (ltb 64 n)
     ∷ refuses 12 (not (blockEnd l n ≤ᶠ whole 1_000_000_000)) ∷ []

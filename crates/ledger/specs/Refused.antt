@@ -20,16 +20,16 @@ use Rattle.ledger.specs.Steps.{Outcome, change, accept, refusedReply, de
 abbrev pub lentOut : Call → List Float
 lentOut (push kind start end fade-in fade-out curve source gain) = []
 lentOut (edit kind n end fade-out) = []
-lentOut (tick pool out) = out
-lentOut (block n pool out scratch) = out
+lentOut (tick order pool out) = out
+lentOut (block order n pool out scratch) = out
 lentOut (rate r) = []
 lentOut reset = []
 
 abbrev pub lentScratch : Call → Option (List Float)
 lentScratch (push kind start end fade-in fade-out curve source gain) = none
 lentScratch (edit kind n end fade-out) = none
-lentScratch (tick pool out) = none
-lentScratch (block n pool out scratch) = scratch
+lentScratch (tick order pool out) = none
+lentScratch (block order n pool out scratch) = scratch
 lentScratch (rate r) = none
 lentScratch reset = none
 
@@ -61,16 +61,16 @@ unfolding accept
 accept-never-refuses l (push kind start end fade-in fade-out curve source gain) = refl
 accept-never-refuses l (edit kind k end fade-out) =
     change-never-refuses l k (record { «end_time» = editEnd kind (l .clock) end; «fade_out» = fade-out }) (has k (l .sounding)) (editEnd kind (l .clock) end <ᶠ l .threshold)
-accept-never-refuses l (tick pool out) = refl
-accept-never-refuses l (block n pool out scratch) = refl
+accept-never-refuses l (tick order pool out) = refl
+accept-never-refuses l (block order n pool out scratch) = refl
 accept-never-refuses l (rate r) = refl
 accept-never-refuses l reset = refl
 
 unchanged : (l : Ledger) (c : Call) (k : ℕ) → Unchanged l c (record { ledger = l; reply = refusedReply k c })
 unchanged l (push kind start end fade-in fade-out curve source gain) k = record { ledger = refl; out = refl; scratch = refl }
 unchanged l (edit kind n end fade-out) k = record { ledger = refl; out = refl; scratch = refl }
-unchanged l (tick pool out) k = record { ledger = refl; out = refl; scratch = refl }
-unchanged l (block n pool out scratch) k = record { ledger = refl; out = refl; scratch = refl }
+unchanged l (tick order pool out) k = record { ledger = refl; out = refl; scratch = refl }
+unchanged l (block order n pool out scratch) k = record { ledger = refl; out = refl; scratch = refl }
 unchanged l (rate r) k = record { ledger = refl; out = refl; scratch = refl }
 unchanged l reset k = record { ledger = refl; out = refl; scratch = refl }
 

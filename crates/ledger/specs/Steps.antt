@@ -1,13 +1,15 @@
 -- Document 01, "The plain ledger": what each call does, one after another. It runs.
 use Prim.Native.Nat.{ℕ, suc, _+_, _*_, _/_}
 use mathlib.Core.Bool.{Bool, true, false}
-use mathlib.Core.List.{List, [], _∷_, _++_, map}
+use mathlib.Core.List.{List, [], _∷_, _++_, map, reverse}
 use mathlib.Core.Option.{Option, none, some}
 use lib.ListN.{length, replicate}
 use lib.Ieee.{Float, add, sub, mul, div, lt, eq}
 use Rattle.event.specs.declared.Event.{Event}
 use Rattle.event.specs.declared.Edit.{Edit}
 use Rattle.event.specs.declared.StoredEdit.{StoredEdit}
+use Rattle.event.specs.declared.MixOrder.{MixOrder}
+use Rattle.event.specs.declared.MixOrder.the-variants.{Forward, Backward}
 use Rattle.event.specs.declared.Placings.{Placings}
 use Rattle.event.specs.declared.ReplayMode.{ReplayMode}
 use Rattle.event.specs.declared.ReplayMode.the-variants.{All, None}
@@ -107,6 +109,11 @@ advance l e =
 abbrev pub withSounding : Ledger → List Event → Ledger
 withSounding l s = withLists l (l .waiting) s (l .finished) (l .edits) (l .clock) (l .threshold) (l .gone)
 
+-- Document 02, Paper 9: "a mark that makes the mixer add from the end of the sounding list as the call leaves it; events move and finish as without the mark."
+abbrev pub inOrder : MixOrder → List Event → List Event
+inOrder Forward s = s
+inOrder Backward s = reverse s
+
 abbrev pub spanOf : Ledger → (n : ℕ) → Span
 spanOf l n = record { size = n; clock = l .clock; upto = blockEnd l n; rate = l .rate; duration = l .duration }
 
@@ -161,18 +168,18 @@ accept l (push kind start end fade-in fade-out curve source gain) =
 accept l (edit kind k end fade-out) =
     let end = editEnd kind (l .clock) end in
     change l k (record { «end_time» = end; «fade_out» = fade-out }) (has k (l .sounding)) (end <ᶠ l .threshold)
-accept l (tick pool out) =
+accept l (tick order pool out) =
     let m = advance l (tickEnd l) in
-    let r = tickSum pool (l .clock) (m .sounding) zeroᶠ in
+    let r = tickSum pool (l .clock) (inOrder order (m .sounding)) zeroᶠ in
     record {
-      ledger = withSounding m (r .events);
+      ledger = withSounding m (tickSum pool (l .clock) (m .sounding) zeroᶠ .events);
       reply = record { answer = done; out = replicate (l .channels) (r .out); scratch = none; filled = 64 };
     }
-accept l (block n pool out scratch) =
+accept l (block order n pool out scratch) =
     let m = advance l (blockEnd l n) in
-    let r = blockSum pool (spanOf l n) (m .sounding) (cleared n) [] in
+    let r = blockSum pool (spanOf l n) (inOrder order (m .sounding)) (cleared n) [] in
     record {
-      ledger = withSounding m (r .events);
+      ledger = withSounding m (blockSum pool (spanOf l n) (m .sounding) (cleared n) [] .events);
       reply = record {
         answer = rendered (blockPlaces l n);
         out = overlay (l .channels) (r .channel) out;
@@ -188,8 +195,8 @@ accept l reset = record { ledger = restart l (l .mode); reply = answers done }
 abbrev pub refusedReply : (k : ℕ) → Call → Reply
 refusedReply k (push kind start end fade-in fade-out curve source gain) = answers (refused k)
 refusedReply k (edit kind n end fade-out) = answers (refused k)
-refusedReply k (tick pool out) = record { answer = refused k; out = out; scratch = none; filled = 64 }
-refusedReply k (block n pool out scratch) = record { answer = refused k; out = out; scratch = scratch; filled = 64 }
+refusedReply k (tick order pool out) = record { answer = refused k; out = out; scratch = none; filled = 64 }
+refusedReply k (block order n pool out scratch) = record { answer = refused k; out = out; scratch = scratch; filled = 64 }
 refusedReply k (rate r) = answers (refused k)
 refusedReply k reset = answers (refused k)
 

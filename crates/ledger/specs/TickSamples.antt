@@ -29,7 +29,7 @@ tickSample pool t e = fadedOut t e (fadedIn t e (sampleOf pool (e .unit) ×ˢ e 
 abbrev pub afterTick : Event → Event
 afterTick e = withUnit (advanced (e .unit)) e
 
--- in S order, each is added to what stands in the output; and the events after it
+-- in S order, or with the mark from its end (Steps.antt, `inOrder`), each is added to what stands in the output; and the events after it
 pub record TickSum : Type 0 where
   pub out : Float
   pub events : List Event

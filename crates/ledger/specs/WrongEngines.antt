@@ -9,6 +9,7 @@ use lib.ListN.{length, getD, replicate}
 use lib.Ieee.{Float, nan, inf, fin}
 use Rattle.floats.specs.Arithmetic.{zeroᶠ, oneᶠ, whole}
 use Rattle.event.specs.declared.Fade.the-variants.{Smooth}
+use Rattle.event.specs.declared.MixOrder.the-variants.{Forward}
 use Rattle.event.specs.declared.ReplayMode.the-variants.{All, None}
 use Rattle.event.specs.declared.Source.the-variants.{Held}
 use Rattle.ledger.specs.Calls.{Call, push, edit, tick, block, rate, reset, absolute, number, done, refused, Reply}
@@ -24,7 +25,7 @@ abbrev clip : Call
 clip = push absolute zeroᶠ oneᶠ zeroᶠ zeroᶠ Smooth (Held oneᶠ) oneᶠ
 
 abbrev one-tick : Call
-one-tick = tick [] (zeroᶠ ∷ [])
+one-tick = tick Forward [] (zeroᶠ ∷ [])
 
 abbrev zeros : List Float
 zeros = replicate 64 zeroᶠ
@@ -34,21 +35,21 @@ scratch true = some zeros
 scratch false = none
 
 abbrev one-block : (lends : Bool) → Call
-one-block b = block 8 [] zeros (scratch b)
+one-block b = block Forward 8 [] zeros (scratch b)
 
 abbrev isPush : Call → Bool
 isPush (push k start end fade-in fade-out curve source gain) = true
 isPush (edit k n end fade-out) = false
-isPush (tick pool out) = false
-isPush (block n pool out scratch) = false
+isPush (tick order pool out) = false
+isPush (block order n pool out scratch) = false
 isPush (rate x) = false
 isPush reset = false
 
 abbrev isTickOrBlock : Call → Bool
 isTickOrBlock (push k start end fade-in fade-out curve source gain) = false
 isTickOrBlock (edit k n end fade-out) = false
-isTickOrBlock (tick pool out) = true
-isTickOrBlock (block n pool out scratch) = true
+isTickOrBlock (tick order pool out) = true
+isTickOrBlock (block order n pool out scratch) = true
 isTickOrBlock (rate x) = false
 isTickOrBlock reset = false
 
@@ -117,15 +118,15 @@ not-all-waiting b d =
 -- ---- 5: it renders its first block and then repeats it. By the whole list: the second block, after the clip's end.
 
 abbrev again : Option (List Float) → Ledger → Call → (Ledger × Option (List Float)) × Reply
-again first l (block n pool out scratch) =
-    let o = step l (block n pool out scratch) in
+again first l (block order n pool out scratch) =
+    let o = step l (block order n pool out scratch) in
     elim first [
       | none ↦ ((o .ledger, some (o .reply .out)), o .reply)
       | some m ↦ ((o .ledger, some m), record { answer = o .reply .answer; out = m; scratch = o .reply .scratch; filled = o .reply .filled })
     ]
 again first l (push k start end fade-in fade-out curve source gain) = let o = step l (push k start end fade-in fade-out curve source gain) in ((o .ledger, first), o .reply)
 again first l (edit k n end fade-out) = let o = step l (edit k n end fade-out) in ((o .ledger, first), o .reply)
-again first l (tick pool out) = let o = step l (tick pool out) in ((o .ledger, first), o .reply)
+again first l (tick order pool out) = let o = step l (tick order pool out) in ((o .ledger, first), o .reply)
 again first l (rate x) = let o = step l (rate x) in ((o .ledger, first), o .reply)
 again first l reset = let o = step l reset in ((o .ledger, first), o .reply)
 

@@ -5,6 +5,7 @@ use Prim.Native.Nat.{ℕ}
 use lib.Dec.{eqb}
 use lib.Ieee.{Float}
 use lib.ListN.{length}
+use Rattle.event.specs.declared.MixOrder.{MixOrder}
 use Rattle.refusals.specs.Refusals.{tickRefusal, processRefusal, rateRefusal}
 use Rattle.sequencer.specs.declared.Sequencer.{Sequencer}
 use Rattle.sequencer.specs.Rendering.{renderedTick, renderedTickOut, renderedBlock, renderedPlaces, renderedBlockOut}
@@ -20,28 +21,28 @@ withEngine d s = record { sequencer = s; messages = d .messages; returned = d .r
 abbrev pub tickNo : SequencerBackend → (len : ℕ) → ℕ
 tickNo d len = tickRefusal len (d .sequencer .outputs) (d .sequencer .time) (d .sequencer .«sample_duration»)
 
-unfoldable pub ticks : (pool : List Float) → (len : ℕ) → SequencerBackend → Outcome
+unfoldable pub ticks : MixOrder → (pool : List Float) → (len : ℕ) → SequencerBackend → Outcome
 unfolding tickRefusal drained renderedTick pastSentBy
-ticks pool len d =
+ticks order pool len d =
     let b = drained d in
-    cond (eqb (tickNo d len) 0) (accepts (pastSent (withEngine b (renderedTick pool (b .sequencer))))) (refuses d (tickNo d len))
+    cond (eqb (tickNo d len) 0) (accepts (pastSent (withEngine b (renderedTick order pool (b .sequencer))))) (refuses d (tickNo d len))
 
-unfoldable pub tickOuts : (pool : List Float) → SequencerBackend → (out : List Float) → List Float
+unfoldable pub tickOuts : MixOrder → (pool : List Float) → SequencerBackend → (out : List Float) → List Float
 unfolding tickRefusal drained renderedTickOut
-tickOuts pool d out = cond (eqb (tickNo d (length out)) 0) (renderedTickOut pool (drained d .sequencer) out) out
+tickOuts order pool d out = cond (eqb (tickNo d (length out)) 0) (renderedTickOut order pool (drained d .sequencer) out) out
 
 abbrev pub blockNo : SequencerBackend → (n len : ℕ) → ℕ
 blockNo d n len = processRefusal n len (d .sequencer .outputs) (d .sequencer .time) (d .sequencer .«sample_duration»)
 
-unfoldable pub blocks : (pool : List Float) → (n len : ℕ) → SequencerBackend → Outcome
+unfoldable pub blocks : MixOrder → (pool : List Float) → (n len : ℕ) → SequencerBackend → Outcome
 unfolding processRefusal drained renderedBlock renderedPlaces pastSentBy
-blocks pool n len d =
+blocks order pool n len d =
     let b = drained d in
-    cond (eqb (blockNo d n len) 0) (renders (renderedPlaces n (b .sequencer)) (pastSent (withEngine b (renderedBlock pool n (b .sequencer))))) (refuses d (blockNo d n len))
+    cond (eqb (blockNo d n len) 0) (renders (renderedPlaces order n (b .sequencer)) (pastSent (withEngine b (renderedBlock order pool n (b .sequencer))))) (refuses d (blockNo d n len))
 
-unfoldable pub blockOuts : (pool : List Float) → (n : ℕ) → SequencerBackend → (out : List Float) → List Float
+unfoldable pub blockOuts : MixOrder → (pool : List Float) → (n : ℕ) → SequencerBackend → (out : List Float) → List Float
 unfolding processRefusal drained renderedBlockOut
-blockOuts pool n d out = cond (eqb (blockNo d n (length out)) 0) (renderedBlockOut pool n (drained d .sequencer) out) out
+blockOuts order pool n d out = cond (eqb (blockNo d n (length out)) 0) (renderedBlockOut order pool n (drained d .sequencer) out) out
 
 unfoldable pub rates : SequencerBackend → (rate : Float) → Outcome
 unfolding rateRefusal drained reRated

@@ -5,13 +5,14 @@ ghost use Rattle.realseq.specs.Backs.{ticks, tickOuts, blocks, blockOuts
 use crate::Answer;
 use crate::Outcome;
 use crate::SequencerBackend;
+use event::MixOrder;
 use refusals::process_refusal;
 use refusals::rate_refusal;
 use refusals::tick_refusal;
 
 impl SequencerBackend {
-    pub fn tick(self, pool: &[f32], out: &mut [f32]) -> Outcome
-        ensures { λ r. ⌜ (r ≡ ticks (now (pool .entry)) (length (now (out .entry))) self) × (now (out .exit) ≡ tickOuts (now (pool .entry)) self (now (out .entry))) ⌝ }
+    pub fn tick(self, order: MixOrder, pool: &[f32], out: &mut [f32]) -> Outcome
+        ensures { λ r. ⌜ (r ≡ ticks order (now (pool .entry)) (length (now (out .entry))) self) × (now (out .exit) ≡ tickOuts order (now (pool .entry)) self (now (out .entry))) ⌝ }
     {
         let s = self.sequencer;
         let no = tick_refusal(out.len(), s.outputs, s.time, s.sample_duration);
@@ -23,7 +24,7 @@ impl SequencerBackend {
         }
         let mut d = self.drain();
         let s = d.sequencer;
-        let s = s.render_tick(pool, out);
+        let s = s.render_tick(order, pool, out);
         d.sequencer = s;
         d = d.send_back_past();
         Outcome {
@@ -32,8 +33,8 @@ impl SequencerBackend {
         }
     }
 
-    pub fn process(self, size: usize, pool: &[f32], out: &mut [f32]) -> Outcome
-        ensures { λ r. ⌜ (r ≡ blocks (now (pool .entry)) size (length (now (out .entry))) self) × (now (out .exit) ≡ blockOuts (now (pool .entry)) size self (now (out .entry))) ⌝ }
+    pub fn process(self, order: MixOrder, size: usize, pool: &[f32], out: &mut [f32]) -> Outcome
+        ensures { λ r. ⌜ (r ≡ blocks order (now (pool .entry)) size (length (now (out .entry))) self) × (now (out .exit) ≡ blockOuts order (now (pool .entry)) size self (now (out .entry))) ⌝ }
     {
         let s = self.sequencer;
         let no = process_refusal(size, out.len(), s.outputs, s.time, s.sample_duration);
@@ -45,7 +46,7 @@ impl SequencerBackend {
         }
         let mut d = self.drain();
         let s = d.sequencer;
-        let r = s.render_block(size, pool, out);
+        let r = s.render_block(order, size, pool, out);
         let s = r.sequencer;
         let places = r.places;
         d.sequencer = s;

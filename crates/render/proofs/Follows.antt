@@ -10,6 +10,7 @@ use lib.Ieee.{Float}
 use lib.ListN.{length, take, drop, length-append, length-take, length-drop, length-replicate}
 use lib.Seq.{length-take-le}
 use borrow.Author.Tests.{eqb-true}
+use Rattle.event.specs.declared.MixOrder.the-variants.{Forward}
 use Rattle.event.specs.declared.ReplayMode.{ReplayMode}
 use Rattle.event.specs.declared.ReplayMode.the-variants.{All}
 use Rattle.ledger.specs.Calls as Calls
@@ -172,22 +173,22 @@ module _ (s : Sequencer) (l : Ledger) (f : Follows s l) (out : List Float) (long
 
 -- the engine gives back an output of the length that was lent to it
 
-length-ticked : (pool : List Float) (s : Sequencer) (out : List Float) → length (tickOuts pool s out) ≡ length out
+length-ticked : (pool : List Float) (s : Sequencer) (out : List Float) → length (tickOuts Forward pool s out) ≡ length out
 unfolding tickOuts renderedTickOut
 length-ticked pool s out = go (eqb (tickRefusal (length out) (s .outputs) (s .time) (s .«sample_duration»)) 0)
   where
-    go : (b : Bool) → length (cond b (renderedTickOut pool s out) out) ≡ length out
-    go true = length-replicate (length out) (tickPass pool (s .time) (advanced s (tickEnd s)) .sum)
+    go : (b : Bool) → length (cond b (renderedTickOut Forward pool s out) out) ≡ length out
+    go true = length-replicate (length out) (tickPass Forward pool (s .time) (advanced s (tickEnd s)) .sum)
     go false = refl
 
-length-blocked : (pool : List Float) (n : ℕ) (s : Sequencer) (out : List Float) → length (blockOuts pool n s out) ≡ length out
+length-blocked : (pool : List Float) (n : ℕ) (s : Sequencer) (out : List Float) → length (blockOuts Forward pool n s out) ≡ length out
 unfolding blockOuts renderedBlockOut
 length-blocked pool n s out = go (eqb (processRefusal n (length out) (s .outputs) (s .time) (s .«sample_duration»)) 0)
   where
     sum : List Float
-    sum = blockPass pool (spanOf s n) n (advanced s (blockEnd s n)) .sum
+    sum = blockPass Forward pool (spanOf s n) n (advanced s (blockEnd s n)) .sum
 
-    go : (b : Bool) → length (cond b (renderedBlockOut pool n s out) out) ≡ length out
+    go : (b : Bool) → length (cond b (renderedBlockOut Forward pool n s out) out) ≡ length out
     go true = length-overlay (take 64 sum) (omega (arith, length-take 64 sum)) (length out / 64) out (omega arith)
     go false = refl
 
@@ -202,13 +203,13 @@ module _ (s : Sequencer) (l : Ledger) (f : Follows s l) (out : List Float) (long
       let n : ℕ = Engine.channelsOf s in
       let m : ℕ = lentTick s out in
       let lent : List Float = take m out in
-      let o = step l (tick trailPool lent) in
+      let o = step l (tick Forward trailPool lent) in
       let size : m ≡ n = omega arith in
       let part : length lent ≡ m = length-take-le m out (omega arith) in
-      let k = subst (λ (j : ℕ). Keeps (gives (ticks trailPool j s) (tickOuts trailPool s lent)) o) part (keep-tick s l trailPool lent (f .lawful) (f .related)) in
+      let k = subst (λ (j : ℕ). Keeps (gives (ticks Forward trailPool j s) (tickOuts Forward trailPool s lent)) o) part (keep-tick s l Forward trailPool lent (f .lawful) (f .related)) in
       let plays : heard n 1 1 o ≡ play l Tick = ap (λ (c : ℕ). heard c 1 1 o) outputs ∙ sym (plays-tick l lent (part ∙ size ∙ outputs)) in
       subst (λ (p : Played). Followed (ticking trailPool s out) (tickingOut trailPool s out) p) plays
-      (sounds s l f out long (tick trailPool lent) (ticks trailPool m s) (tickOuts trailPool s lent) k m n 1 1
+      (sounds s l f out long (tick Forward trailPool lent) (ticks Forward trailPool m s) (tickOuts Forward trailPool s lent) k m n 1 1
       (length-ticked trailPool s lent ∙ part) (omega arith) (omega arith) (omega arith) (λ h. (omega arith, omega arith)))
 
   follows-block : (size : ℕ) → Followed (processing trailPool size s out) (processingOut trailPool size s out) (play l (Process size))
@@ -217,13 +218,13 @@ module _ (s : Sequencer) (l : Ledger) (f : Follows s l) (out : List Float) (long
       let n : ℕ = Engine.channelsOf s in
       let m : ℕ = lentBlock s out in
       let lent : List Float = take m out in
-      let o = step l (block e trailPool lent none) in
+      let o = step l (block Forward e trailPool lent none) in
       let size : m ≡ 64 * n = omega arith in
       let part : length lent ≡ m = length-take-le m out (omega arith) in
-      let k = subst (λ (j : ℕ). Keeps (gives (blocks trailPool e j s) (blockOuts trailPool e s lent)) o) part (keep-block s l e trailPool lent (f .lawful) (f .related)) in
+      let k = subst (λ (j : ℕ). Keeps (gives (blocks Forward trailPool e j s) (blockOuts Forward trailPool e s lent)) o) part (keep-block s l Forward e trailPool lent (f .lawful) (f .related)) in
       let plays : heard n e 64 o ≡ play l (Process e) = ap (λ (c : ℕ). heard c e 64 o) outputs ∙ sym (plays-block l e lent (part ∙ size ∙ ap (λ (c : ℕ). 64 * c) outputs)) in
       subst (λ (p : Played). Followed (processing trailPool e s out) (processingOut trailPool e s out) p) plays
-      (sounds s l f out long (block e trailPool lent none) (blocks trailPool e m s) (blockOuts trailPool e s lent) k m n e 64
+      (sounds s l f out long (block Forward e trailPool lent none) (blocks Forward trailPool e m s) (blockOuts Forward trailPool e s lent) k m n e 64
       (length-blocked trailPool e s lent ∙ part) (omega arith) (omega arith) (omega arith) (λ h. let b = accepted-size l e trailPool lent h in (b, b)))
 
 -- ---- every record

@@ -12,6 +12,7 @@ use lib.Seq.{length-take-le, take-append-le, drop-append-le, drop-at}
 use borrow.Author.Tests.{ltb-false, leb-true}
 use Rattle.event.specs.declared.Event.{Event}
 use Rattle.event.specs.declared.Edit.{Edit}
+use Rattle.event.specs.declared.MixOrder.the-variants.{Forward}
 use Rattle.event.specs.declared.ReplayMode.{ReplayMode}
 use Rattle.event.specs.declared.ReplayMode.the-variants.{All, None}
 use Rattle.floats.specs.Arithmetic.{_<ᶠ_, _≈ᶠ_, _≤ᶠ_, zeroᶠ, whole}
@@ -49,8 +50,8 @@ unfolding accept enter advance
 accept-channels l (push kind start end fade-in fade-out curve source gain) = refl
 accept-channels l (edit kind k end fade-out) =
     change-channels l k (record { «end_time» = editEnd kind (l .clock) end; «fade_out» = fade-out }) (has k (l .sounding)) (editEnd kind (l .clock) end <ᶠ l .threshold)
-accept-channels l (tick pool out) = refl
-accept-channels l (block n pool out scratch) = refl
+accept-channels l (tick order pool out) = refl
+accept-channels l (block order n pool out scratch) = refl
 accept-channels l (rate r) = rate-channels l r (l .rate ≈ᶠ r)
 accept-channels l reset = restart-channels l (l .mode)
 
@@ -127,7 +128,7 @@ module _ (run : List Float) (short : length run ≤ 64) where
 -- ---- a tick, and a block that is lent no scratch: what is heard depends on the length of the output lent, and on nothing that stands in it
 
 module _ (l : Ledger) (pool a b : List Float) (same : length a ≡ length b) where
-  pub heard-tick : heard (l .channels) 1 1 (step l (tick pool a)) ≡ heard (l .channels) 1 1 (step l (tick pool b))
+  pub heard-tick : heard (l .channels) 1 1 (step l (tick Forward pool a)) ≡ heard (l .channels) 1 1 (step l (tick Forward pool b))
   unfolding step decide refusal checks firstOf accept heard
   heard-tick =
       ap (λ (k : ℕ). heard (l .channels) 1 1 (decided (not (eqb k (l .channels))) late a)) same ∙ go (not (eqb (length b) (l .channels))) late
@@ -136,7 +137,7 @@ module _ (l : Ledger) (pool a b : List Float) (same : length a ≡ length b) whe
       late = not (tickEnd l ≤ᶠ whole 1_000_000_000)
 
       decided : (x y : Bool) → List Float → Outcome
-      decided x y out = decide (firstOf (refuses 10 x ∷ refuses 12 y ∷ [])) l (tick pool out)
+      decided x y out = decide (firstOf (refuses 10 x ∷ refuses 12 y ∷ [])) l (tick Forward pool out)
 
       go : (x y : Bool) → heard (l .channels) 1 1 (decided x y a) ≡ heard (l .channels) 1 1 (decided x y b)
       go true y = refl
@@ -156,7 +157,7 @@ length-summed l n pool =
 module _ (l : Ledger) (n : ℕ) (pool : List Float) where
   -- by what the checks 10, 11 and 12 give
   decided : (x y z : Bool) → List Float → Outcome
-  decided x y z out = decide (firstOf (refuses 10 x ∷ refuses 11 y ∷ refuses 12 z ∷ [])) l (block n pool out none)
+  decided x y z out = decide (firstOf (refuses 10 x ∷ refuses 11 y ∷ refuses 12 z ∷ [])) l (block Forward n pool out none)
 
   -- 12
   late : Bool
@@ -167,7 +168,7 @@ module _ (l : Ledger) (n : ℕ) (pool : List Float) where
   other k = not (eqb k (64 * l .channels) && true)
 
   -- a block that is not refused has at most 64 samples
-  pub accepted-size : (out : List Float) → refusalOf (step l (block n pool out none) .reply .answer) ≡ 0 → n ≤ 64
+  pub accepted-size : (out : List Float) → refusalOf (step l (block Forward n pool out none) .reply .answer) ≡ 0 → n ≤ 64
   unfolding decided late other step decide refusal checks firstOf
   accepted-size out = go (other (length out)) (ltb 64 n) refl late
     where
@@ -177,7 +178,7 @@ module _ (l : Ledger) (n : ℕ) (pool : List Float) where
       go false false q z h = ltb-false 64 n q
 
   pub heard-block : (a b : List Float) → length a ≡ 64 * l .channels → length b ≡ 64 * l .channels
-      → heard (l .channels) n 64 (step l (block n pool a none)) ≡ heard (l .channels) n 64 (step l (block n pool b none))
+      → heard (l .channels) n 64 (step l (block Forward n pool a none)) ≡ heard (l .channels) n 64 (step l (block Forward n pool b none))
   unfolding decided late other step decide refusal checks firstOf accept heard summed
   heard-block a b p q =
       ap (λ (k : ℕ). heard (l .channels) n 64 (decided (other k) (ltb 64 n) late a)) (p ∙ sym q) ∙ go (other (length b)) (ltb 64 n) refl late
@@ -195,14 +196,14 @@ module _ (l : Ledger) (n : ℕ) (pool : List Float) where
           let short : length run ≤ 64 = omega arith in
           let enough : n ≤ length run = omega arith in
           let each = heard-overlay run short (l .channels) n in
-          ap (λ (x : List Float). record { ledger = accept l (block n pool a none) .ledger; refusal = 0; samples = x }) (each a enough (omega arith) ∙ sym (each b enough (omega arith)))
+          ap (λ (x : List Float). record { ledger = accept l (block Forward n pool a none) .ledger; refusal = 0; samples = x }) (each a enough (omega arith) ∙ sym (each b enough (omega arith)))
 
 -- a record's tick or block may be lent any output of the length that it wants
 
-pub plays-tick : (l : Ledger) (out : List Float) → length out ≡ l .channels → play l Tick ≡ heard (l .channels) 1 1 (step l (tick trailPool out))
+pub plays-tick : (l : Ledger) (out : List Float) → length out ≡ l .channels → play l Tick ≡ heard (l .channels) 1 1 (step l (tick Forward trailPool out))
 unfolding play
 plays-tick l out h = heard-tick l trailPool (replicate (l .channels) zeroᶠ) out (length-replicate (l .channels) zeroᶠ ∙ sym h)
 
-pub plays-block : (l : Ledger) (n : ℕ) (out : List Float) → length out ≡ 64 * l .channels → play l (Process n) ≡ heard (l .channels) n 64 (step l (block n trailPool out none))
+pub plays-block : (l : Ledger) (n : ℕ) (out : List Float) → length out ≡ 64 * l .channels → play l (Process n) ≡ heard (l .channels) n 64 (step l (block Forward n trailPool out none))
 unfolding play
 plays-block l n out h = heard-block l n trailPool (replicate (64 * l .channels) zeroᶠ) out (length-replicate (64 * l .channels) zeroᶠ) h

@@ -6,6 +6,7 @@ use mathlib.Core.Option.{none}
 use lib.Dec.{eqb}
 use lib.Ieee.{Float}
 use lib.ListN.{take, drop, replicate}
+use Rattle.event.specs.declared.MixOrder.the-variants.{Forward}
 use Rattle.floats.specs.Arithmetic.{zeroᶠ}
 use Rattle.ledger.specs.Calls.{PushKind, absolute, relative, byDuration, EditKind, absoluteEnd, relativeEnd, push, edit, tick, block, rate, reset, Answer, number, applied, past, stored, done, rendered, refused}
 use Rattle.ledger.specs.Calls as Calls
@@ -64,7 +65,7 @@ play l (PushRelative p) = silent (step l (pushCall relative p))
 play l (PushDuration p) = silent (step l (pushCall byDuration p))
 play l (Edit p) = silent (step l (editCall absoluteEnd p))
 play l (EditRelative p) = silent (step l (editCall relativeEnd p))
-play l Tick = heard (l .channels) 1 1 (step l (tick trailPool (replicate (l .channels) zeroᶠ)))
-play l (Process n) = heard (l .channels) n 64 (step l (block n trailPool (replicate (64 * l .channels) zeroᶠ) none))
+play l Tick = heard (l .channels) 1 1 (step l (tick Forward trailPool (replicate (l .channels) zeroᶠ)))
+play l (Process n) = heard (l .channels) n 64 (step l (block Forward n trailPool (replicate (64 * l .channels) zeroᶠ) none))
 play l Reset = silent (step l reset)
 play l (SetSampleRate r) = silent (step l (rate r))

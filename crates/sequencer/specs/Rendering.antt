@@ -6,6 +6,8 @@ use lib.Dec.{ltb, eqb}
 use lib.Ieee.{Float, lt, add, mul}
 use lib.ListN.{getD, set, length, replicate, take}
 use Rattle.event.specs.declared.Event.{Event}
+use Rattle.event.specs.declared.MixOrder.{MixOrder}
+use Rattle.event.specs.declared.MixOrder.the-variants.{Forward, Backward}
 use Rattle.event.specs.declared.ReplayMode.{ReplayMode}
 use Rattle.event.specs.declared.ReplayMode.the-variants.{All, None}
 use Rattle.event.specs.declared.Placings.{Placings}
@@ -35,16 +37,22 @@ unfoldable pub listsChange : (ends : Bool) → ReplayMode → (past ready : ℕ)
 unfolding releases
 listsChange ends m past ready start θ = ends || ((not (eqb ready 0) && start <ᶠ θ) || releases m past)
 
--- ---- f elements from place i on: each is replaced by `next` of it, and added to a sum
+-- ---- a pass over an array: each element in turn is replaced by `next` of it, and added to a sum. i have been passed and f are left; the next is at place i, or of the places left the last.
+
+abbrev pub mixPlace : MixOrder → (i left : ℕ) → ℕ
+mixPlace Forward i left = i
+mixPlace Backward i left = left
 
 pub record Passed (A S : Type 0) : Type 0 where
   pub sum : S
   pub items : List A
 
 module _ {A S : Type 0} (next : A → A) (plus : S → A → S) (d : A) where
-  unfoldable pub passes : (f : ℕ) → (xs : List A) → (i : ℕ) → (sum : S) → Passed A S
-  passes zero xs i s = record { sum = s; items = xs }
-  passes (suc f) xs i s = passes f (set xs i (next (getD xs i d))) (suc i) (plus s (getD xs i d))
+  unfoldable pub passes : MixOrder → (f : ℕ) → (xs : List A) → (i : ℕ) → (sum : S) → Passed A S
+  passes order zero xs i s = record { sum = s; items = xs }
+  passes order (suc f) xs i s =
+      let k = mixPlace order i f in
+      passes order f (set xs k (next (getD xs k d))) (suc i) (plus s (getD xs k d))
 
 -- ---- a tick
 
@@ -54,30 +62,30 @@ tickEnd s = s .time +ᵈ s .«sample_duration»
 abbrev pub addTick : (pool : List Float) → (t sum : Float) → Event → Float
 addTick pool t sum e = sum +ˢ tickSample pool t e
 
--- every active event in order, at clock t
-unfoldable pub tickPass : (pool : List Float) → (t : Float) → Sequencer → Passed Event Float
+-- every active event in that order, at clock t
+unfoldable pub tickPass : MixOrder → (pool : List Float) → (t : Float) → Sequencer → Passed Event Float
 unfolding passes
-tickPass pool t a = passes afterTick (addTick pool t) blank (min (a .«active_len») 256) (a .active) 0 zeroᶠ
+tickPass order pool t a = passes afterTick (addTick pool t) blank order (min (a .«active_len») 256) (a .active) 0 zeroᶠ
 
-unfoldable pub renderedTick : (pool : List Float) → Sequencer → Sequencer
+unfoldable pub renderedTick : MixOrder → (pool : List Float) → Sequencer → Sequencer
 unfolding tickPass advanced
-renderedTick pool s =
+renderedTick order pool s =
     let a = advanced s (tickEnd s) in
-    withSounding a (tickPass pool (s .time) a .items)
+    withSounding a (tickPass order pool (s .time) a .items)
 
-unfoldable pub renderedTickOut : (pool : List Float) → Sequencer → (out : List Float) → List Float
+unfoldable pub renderedTickOut : MixOrder → (pool : List Float) → Sequencer → (out : List Float) → List Float
 unfolding tickPass advanced
-renderedTickOut pool s out = replicate (length out) (tickPass pool (s .time) (advanced s (tickEnd s)) .sum)
+renderedTickOut order pool s out = replicate (length out) (tickPass order pool (s .time) (advanced s (tickEnd s)) .sum)
 
-unfoldable pub ticks : (pool : List Float) → (len : ℕ) → Sequencer → Outcome
+unfoldable pub ticks : MixOrder → (pool : List Float) → (len : ℕ) → Sequencer → Outcome
 unfolding tickRefusal renderedTick
-ticks pool len s =
+ticks order pool len s =
     let no = tickRefusal len (s .outputs) (s .time) (s .«sample_duration») in
-    cond (eqb no 0) (accepts (renderedTick pool s)) (refuses s no)
+    cond (eqb no 0) (accepts (renderedTick order pool s)) (refuses s no)
 
-unfoldable pub tickOuts : (pool : List Float) → Sequencer → (out : List Float) → List Float
+unfoldable pub tickOuts : MixOrder → (pool : List Float) → Sequencer → (out : List Float) → List Float
 unfolding tickRefusal renderedTickOut
-tickOuts pool s out = cond (eqb (tickRefusal (length out) (s .outputs) (s .time) (s .«sample_duration»)) 0) (renderedTickOut pool s out) out
+tickOuts order pool s out = cond (eqb (tickRefusal (length out) (s .outputs) (s .time) (s .«sample_duration»)) 0) (renderedTickOut order pool s out) out
 
 -- ---- a block of n samples
 
@@ -91,41 +99,41 @@ spanOf s n = record { size = min 64 n; clock = s .time; upto = blockEnd s n; rat
 abbrev pub addBlock : (pool : List Float) → Block.Span → (channel : List Float) → Event → List Float
 addBlock pool b channel e = channelAfter pool b e channel
 
-unfoldable pub blockPass : (pool : List Float) → Block.Span → (n : ℕ) → Sequencer → Passed Event (List Float)
+unfoldable pub blockPass : MixOrder → (pool : List Float) → Block.Span → (n : ℕ) → Sequencer → Passed Event (List Float)
 unfolding passes
-blockPass pool b n a = passes (afterBlock b) (addBlock pool b) blank (min (a .«active_len») 256) (a .active) 0 (replicate (clearedPlaces n) zeroᶠ)
+blockPass order pool b n a = passes (afterBlock b) (addBlock pool b) blank order (min (a .«active_len») 256) (a .active) 0 (replicate (clearedPlaces n) zeroᶠ)
 
 -- how the places of every active event came
 abbrev pub addPlaces : Block.Span → Placings → Event → Placings
 addPlaces b c e = addAll c (eventPlacings b e)
 
-unfoldable pub placesPass : Block.Span → Sequencer → Passed Event Placings
+unfoldable pub placesPass : MixOrder → Block.Span → Sequencer → Passed Event Placings
 unfolding passes
-placesPass b a = passes (afterBlock b) (addPlaces b) blank (min (a .«active_len») 256) (a .active) 0 noPlacings
+placesPass order b a = passes (afterBlock b) (addPlaces b) blank order (min (a .«active_len») 256) (a .active) 0 noPlacings
 
-unfoldable pub renderedPlaces : (n : ℕ) → Sequencer → Placings
+unfoldable pub renderedPlaces : MixOrder → (n : ℕ) → Sequencer → Placings
 unfolding placesPass advanced
-renderedPlaces n s = placesPass (spanOf s n) (advanced s (blockEnd s n)) .sum
+renderedPlaces order n s = placesPass order (spanOf s n) (advanced s (blockEnd s n)) .sum
 
-unfoldable pub renderedBlock : (pool : List Float) → (n : ℕ) → Sequencer → Sequencer
+unfoldable pub renderedBlock : MixOrder → (pool : List Float) → (n : ℕ) → Sequencer → Sequencer
 unfolding blockPass advanced
-renderedBlock pool n s =
+renderedBlock order pool n s =
     let a = advanced s (blockEnd s n) in
-    withSounding a (blockPass pool (spanOf s n) n a .items)
+    withSounding a (blockPass order pool (spanOf s n) n a .items)
 
-abbrev pub renderedWith : (pool : List Float) → (n : ℕ) → Sequencer → Rendered
-renderedWith pool n s = record { sequencer = renderedBlock pool n s; places = renderedPlaces n s }
+abbrev pub renderedWith : MixOrder → (pool : List Float) → (n : ℕ) → Sequencer → Rendered
+renderedWith order pool n s = record { sequencer = renderedBlock order pool n s; places = renderedPlaces order n s }
 
-unfoldable pub renderedBlockOut : (pool : List Float) → (n : ℕ) → Sequencer → (out : List Float) → List Float
+unfoldable pub renderedBlockOut : MixOrder → (pool : List Float) → (n : ℕ) → Sequencer → (out : List Float) → List Float
 unfolding blockPass advanced
-renderedBlockOut pool n s out = overlay (length out / 64) (take 64 (blockPass pool (spanOf s n) n (advanced s (blockEnd s n)) .sum)) out
+renderedBlockOut order pool n s out = overlay (length out / 64) (take 64 (blockPass order pool (spanOf s n) n (advanced s (blockEnd s n)) .sum)) out
 
-unfoldable pub blocks : (pool : List Float) → (n len : ℕ) → Sequencer → Outcome
+unfoldable pub blocks : MixOrder → (pool : List Float) → (n len : ℕ) → Sequencer → Outcome
 unfolding processRefusal renderedBlock renderedPlaces
-blocks pool n len s =
+blocks order pool n len s =
     let no = processRefusal n len (s .outputs) (s .time) (s .«sample_duration») in
-    cond (eqb no 0) (renders (renderedBlock pool n s) (renderedPlaces n s)) (refuses s no)
+    cond (eqb no 0) (renders (renderedBlock order pool n s) (renderedPlaces order n s)) (refuses s no)
 
-unfoldable pub blockOuts : (pool : List Float) → (n : ℕ) → Sequencer → (out : List Float) → List Float
+unfoldable pub blockOuts : MixOrder → (pool : List Float) → (n : ℕ) → Sequencer → (out : List Float) → List Float
 unfolding processRefusal renderedBlockOut
-blockOuts pool n s out = cond (eqb (processRefusal n (length out) (s .outputs) (s .time) (s .«sample_duration»)) 0) (renderedBlockOut pool n s out) out
+blockOuts order pool n s out = cond (eqb (processRefusal n (length out) (s .outputs) (s .time) (s .«sample_duration»)) 0) (renderedBlockOut order pool n s out) out

@@ -2,7 +2,7 @@
 use mathlib.Core.Bool.{Bool, true, false, not, _&&_, _||_}
 use mathlib.Core.List.{List}
 use mathlib.Core.Path.{_≡_, refl, sym, ap, _∙_, subst}
-use Prim.Native.Nat.{ℕ, zero, suc, _+_, _^_, _%_, _≤_, _<_, min}
+use Prim.Native.Nat.{ℕ, zero, suc, _+_, _-_, _^_, _%_, _≤_, _<_, min}
 use native.Mathlib.Omega.{arith}
 use native.Mathlib.Numerals.{add-one}
 use native.Mathlib.Decide.{decLt}
@@ -11,6 +11,7 @@ use lib.Dec.{ltb, eqb}
 use lib.Ieee.{Float}
 use lib.ListN.{getD, set}
 use Rattle.event.specs.declared.Event.{Event}
+use Rattle.event.specs.declared.MixOrder.{MixOrder}
 use Rattle.event.specs.declared.ReplayMode.{ReplayMode}
 use Rattle.event.specs.declared.ReplayMode.the-variants.{All, None}
 use Rattle.event.specs.Events.{blank}
@@ -19,48 +20,54 @@ use Rattle.sequencer.specs.declared.Sequencer.{Sequencer}
 use Rattle.sequencer.specs.Parts.{withPast, withTimes, withLetGo, withSounding}
 use Rattle.sequencer.specs.Moves.{releasedPast, activates, readyToActive, finishes, activeToPast, advanced}
 use Rattle.sequencer.specs.Turns.{Activating, activated-none, activated-late, Finishing, finished-end, finished-beyond, finishing-on}
-use Rattle.sequencer.specs.Rendering.{releases, listsChange, Passed, passes}
+use Rattle.sequencer.specs.Rendering.{releases, listsChange, Passed, mixPlace, passes}
 
--- ---- the pass: of the m active events of J, those before place i have been added to x and replaced, which made S
+-- ---- the pass: of the m active events of J, i have been added to x and replaced, which made S
 
-module _ {T : Type 0} (next : Event → Event) (plus : T → Event → T) (z : T) where
+module _ {T : Type 0} (next : Event → Event) (plus : T → Event → T) (z : T) (order : MixOrder) where
   pub record Passing (J : Sequencer) (m i : ℕ) (S : Sequencer) (x : T) : Type 0 where
     pub count : m ≡ min (J .«active_len») 256
     pub same : S ≡ withSounding J (S .active)
     pub fuel : ℕ
     pub exact : i + fuel ≡ m
-    pub gives : passes next plus blank fuel (S .active) i x ≡ passes next plus blank m (J .active) 0 z
+    pub gives : passes next plus blank order fuel (S .active) i x ≡ passes next plus blank order m (J .active) 0 z
 
   abbrev pub passOf : Sequencer → Passed Event T
-  passOf a = passes next plus blank (min (a .«active_len») 256) (a .active) 0 z
+  passOf a = passes next plus blank order (min (a .«active_len») 256) (a .active) 0 z
 
-module _ {T : Type 0} {next : Event → Event} {plus : T → Event → T} {z : T} {J : Sequencer} {m : ℕ} where
-  pub passing-start : {x : T} → m ≡ min (J .«active_len») 256 → x ≡ z → Passing next plus z J m 0 J x
+module _ {T : Type 0} {next : Event → Event} {plus : T → Event → T} {z : T} {order : MixOrder} {J : Sequencer} {m : ℕ} where
+  pub passing-start : {x : T} → m ≡ min (J .«active_len») 256 → x ≡ z → Passing next plus z order J m 0 J x
   passing-start h q = rw q (record { count = h; same = refl; fuel = m; exact = omega arith; gives = refl })
 
   module _ {i : ℕ} {S : Sequencer} {x : T} where
-    pub passing-on : {e : Event} {y : T} → e ≡ next (getD (S .active) i blank) → y ≡ plus x (getD (S .active) i blank) → i < m → Passing next plus z J m i S x
-        → Passing next plus z J m (i + 1) (withSounding S (set (S .active) i e)) y
+    pub passing-on : {k : ℕ} {e : Event} {y : T} → k ≡ mixPlace order i (m - 1 - i) → e ≡ next (getD (S .active) k blank) → y ≡ plus x (getD (S .active) k blank) → i < m
+        → Passing next plus z order J m i S x → Passing next plus z order J m (i + 1) (withSounding S (set (S .active) k e)) y
     unfolding passes
-    passing-on p q l w = rw (p, q) (go (w .fuel) (w .exact) (w .gives))
+    passing-on {k} h p q l w = rw (p, q) (go (w .fuel) (w .exact) (w .gives))
       where
         xs : List Event
-        xs = set (S .active) i (next (getD (S .active) i blank))
+        xs = set (S .active) k (next (getD (S .active) k blank))
 
-        go : (f : ℕ) → i + f ≡ m → passes next plus blank f (S .active) i x ≡ passes next plus blank m (J .active) 0 z
-            → Passing next plus z J m (i + 1) (withSounding S xs) (plus x (getD (S .active) i blank))
+        go : (f : ℕ) → i + f ≡ m → passes next plus blank order f (S .active) i x ≡ passes next plus blank order m (J .active) 0 z
+            → Passing next plus z order J m (i + 1) (withSounding S xs) (plus x (getD (S .active) k blank))
         go zero e g = absurd (omega arith)
-        go (suc f) e g = rw add-one (record { count = w .count; same = ap (λ (s : Sequencer). withSounding s xs) (w .same); fuel = f; exact = omega arith; gives = g })
+        go (suc f) e g =
+            let left : f ≡ m - 1 - i = omega arith in
+            let at : k ≡ mixPlace order i f = h ∙ ap (mixPlace order i) (sym left) in
+            rw add-one (record { count = w .count; same = ap (λ (s : Sequencer). withSounding s xs) (w .same); fuel = f; exact = omega arith; gives = ap turn at ∙ g })
+          where
+            turn : ℕ → Passed Event T
+            turn j = passes next plus blank order f (set (S .active) j (next (getD (S .active) j blank))) (suc i) (plus x (getD (S .active) j blank))
 
-    pub passing-end : {a : Sequencer} → J ≡ a → m ≤ i → Passing next plus z J m i S x → (S ≡ withSounding a (passOf next plus z a .items)) × (x ≡ passOf next plus z a .sum)
+    pub passing-end : {a : Sequencer} → J ≡ a → m ≤ i → Passing next plus z order J m i S x → (S ≡ withSounding a (passOf next plus z order a .items)) × (x ≡ passOf next plus z order a .sum)
     unfolding passes
     passing-end {a} j l w = go (w .fuel) (w .exact) (w .gives)
       where
-        all : passes next plus blank m (J .active) 0 z ≡ passOf next plus z a
-        all = ap (λ (n : ℕ). passes next plus blank n (J .active) 0 z) (w .count) ∙ ap (passOf next plus z) j
+        all : passes next plus blank order m (J .active) 0 z ≡ passOf next plus z order a
+        all = ap (λ (n : ℕ). passes next plus blank order n (J .active) 0 z) (w .count) ∙ ap (passOf next plus z order) j
 
-        go : (f : ℕ) → i + f ≡ m → passes next plus blank f (S .active) i x ≡ passes next plus blank m (J .active) 0 z
-            → (S ≡ withSounding a (passOf next plus z a .items)) × (x ≡ passOf next plus z a .sum)
+        go : (f : ℕ) → i + f ≡ m → passes next plus blank order f (S .active) i x ≡ passes next plus blank order m (J .active) 0 z
+            → (S ≡ withSounding a (passOf next plus z order a .items)) × (x ≡ passOf next plus z order a .sum)
         go zero e g = (
           w .same ∙ ap (λ (s : Sequencer). withSounding s (S .active)) j ∙ ap (λ (r : Passed Event T). withSounding a (r .items)) (g ∙ all),
           ap (λ (r : Passed Event T). r .sum) (g ∙ all),

@@ -8,6 +8,7 @@ use lib.IntN.{negsuc}
 use lib.ListN.{length, take, replicate}
 use lib.Ieee.{Float, fin, neg}
 use Rattle.event.specs.declared.Fade.the-variants.{Smooth}
+use Rattle.event.specs.declared.MixOrder.the-variants.{Forward}
 use Rattle.event.specs.declared.ReplayMode.the-variants.{None}
 use Rattle.event.specs.declared.Source.the-variants.{Held}
 use Rattle.floats.specs.Arithmetic.{zeroᶠ, oneᶠ, halfᶠ, +∞, whole}
@@ -30,7 +31,7 @@ pub record Ticked : Type 0 where
 unfoldable pub ticked : Call → Ticked
 unfolding run atRate8
 ticked c =
-    let r = run (c ∷ tick [] (zeroᶠ ∷ []) ∷ []) atRate8 in
+    let r = run (c ∷ tick Forward [] (zeroᶠ ∷ []) ∷ []) atRate8 in
     record { waiting = length (r .ledger .waiting); sounding = length (r .ledger .sounding); finished = length (r .ledger .finished); out = lastOut (r .replies) }
 
 abbrev waits : Ticked
@@ -45,7 +46,7 @@ finishes-unheard = record { waiting = 0; sounding = 0; finished = 1; out = zero�
 -- the samples of a block of 16 after one push
 unfoldable pub block16 : Call → List Float
 unfolding run atRate8
-block16 c = take 16 (lastOut (run (c ∷ block 16 [] (replicate 64 zeroᶠ) none ∷ []) atRate8 .replies))
+block16 c = take 16 (lastOut (run (c ∷ block Forward 16 [] (replicate 64 zeroᶠ) none ∷ []) atRate8 .replies))
 
 -- the desk in mode None after a queued reset, a queued push and a tick of the back
 unfoldable pub desk8 : Desk.Desk
@@ -55,7 +56,7 @@ desk8 =
     back (Desk.rate (whole 8))
     ∷ front Desk.reset
     ∷ front (Desk.push absolute zeroᶠ oneᶠ zeroᶠ zeroᶠ Smooth (Held oneᶠ) oneᶠ)
-    ∷ back (Desk.tick [] (zeroᶠ ∷ [])) ∷ []) (opened (fresh 1 None 1)) .desk
+    ∷ back (Desk.tick Forward [] (zeroᶠ ∷ [])) ∷ []) (opened (fresh 1 None 1)) .desk
 
 pub record Sheet : Type 0 where
   -- 1. smooth5 at 0, 0.25, 0.5, 0.75, 1 is 0, 0.103515625, 0.5, 0.896484375, 1.

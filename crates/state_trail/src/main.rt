@@ -1,5 +1,6 @@
 // Plays the first 65,536 bytes of a tape from standard input and lists, for each record, its answer and the whole state behind it (crate state_listing). A failed read counts as the tape's end.
 use apply::Applied;
+use event::MixOrder;
 use runs::least;
 use sequencer::Answer;
 use sequencer::Outcome;
@@ -55,7 +56,7 @@ fn edit(s: Sequencer, kind: u8, p: EditRecord) -> Outcome {
 
 fn process(s: Sequencer, size: usize, pool: &[f32], samples: &mut [f32]) -> Outcome {
     let n = least(64 * least(s.outputs, 8), samples.len());
-    s.process(size, pool, &mut samples[..n])
+    s.process(MixOrder::Forward, size, pool, &mut samples[..n])
 }
 
 // Every other call: done or refused.

@@ -1,10 +1,11 @@
 //! Random short lists of calls, with what the original answers, writes and holds after each, as the
 //! Rattle file crates/ledger_trials/specs/RandomLists.antt. The same file at every run. The gains of
-//! these are 1.0; the lists of one more group have other gains, and are measured by the second ledger.
+//! these are 1.0; the lists of two more groups have other gains, or marked ticks and blocks, and are measured by the second
+//! ledger.
 //!
 //! Usage: ledgerlists > crates/ledger_trials/specs/RandomLists.antt
 
-use oracle::call::{Call, Curve, Edit, Mode, Push, PushKind, Source, Timing};
+use oracle::call::{Call, Curve, Edit, MixOrder, Mode, Push, PushKind, Source, Timing};
 use oracle::engine::Engine;
 use oracle::ledger::Ledger;
 use oracle::player::{Answer, BLOCK, Player, Pool};
@@ -16,6 +17,17 @@ const LISTS: usize = 110;
 const GROUP: usize = 10;
 const SEED: u64 = 20_260_101;
 const GAINS_SEED: u64 = SEED + 1;
+const MARKS_SEED: u64 = SEED + 2;
+
+/// What a list has that the Rust has not.
+#[derive(Clone, Copy, PartialEq, Eq)]
+enum Beyond {
+    Nothing,
+    /// Gains other than 1.0 (document 02, Paper 5).
+    Gains,
+    /// Ticks and blocks with the mark (document 02, Paper 9), behind a chord.
+    Marks,
+}
 
 /// A call whose text is longer is broken into lines.
 const LONG: usize = 380;
@@ -80,8 +92,7 @@ impl Random {
 struct Trial<'a, P> {
     random: &'a mut Random,
     engine: P,
-    /// Whether pushes have other gains than 1.0.
-    gains: bool,
+    beyond: Beyond,
     pool: Pool,
     first: u64,
     /// Each call with what it must give back.
@@ -212,7 +223,11 @@ impl<P: Player> Trial<'_, P> {
         }
         let curve = self.random.pick(&[Curve::Power, Curve::Smooth]);
         let source = self.source();
-        let written_gain = if self.gains { Some(self.gain()) } else { None };
+        let written_gain = if self.beyond == Beyond::Gains {
+            Some(self.gain())
+        } else {
+            None
+        };
         Call::Push(
             kind,
             Push {
@@ -317,6 +332,16 @@ impl<P: Player> Trial<'_, P> {
         })
     }
 
+    /// A tick, or a block of at most 8 samples that is lent a scratch.
+    fn tick_or_small_block(&mut self) -> Call {
+        if self.random.chance(50) {
+            return self.tick();
+        }
+        let size = self.random.between(1, 8) as u8;
+        let channels = self.engine.channels() as u16;
+        Call::BlockLent(size, BLOCK as u16 * channels, Some(BLOCK as u16))
+    }
+
     fn call(&mut self) -> Call {
         match self.random.below(100) {
             0..26 => self.push(),
@@ -340,18 +365,23 @@ impl<P: Player> Trial<'_, P> {
 
 impl<P: Player> Trial<'_, P> {
     fn play(&mut self, call: &Call) {
+        let order = if self.beyond == Beyond::Marks && self.random.chance(75) {
+            MixOrder::Backward
+        } else {
+            MixOrder::Forward
+        };
         let want = match *call {
             Call::Push(kind, ref push, _) => says(self.engine.push(kind, push)),
             Call::Edit(timing, ref edit) => says(self.engine.edit(timing, edit)),
             Call::Reset => says(self.engine.reset()),
             Call::Rate(rate) => says(self.engine.rate(rate)),
-            Call::TickLent(length) => self.play_tick(length.into()),
+            Call::TickLent(length) => self.play_tick(order, length.into()),
             Call::BlockLent(size, output, scratch) => {
-                self.play_block(size, output.into(), scratch.map(usize::from))
+                self.play_block(order, size, output.into(), scratch.map(usize::from))
             }
             _ => unreachable!("`call` draws no other"),
         };
-        let call = call_text(call);
+        let call = call_text(call, order);
         let text = format!("({call}, {want})");
         let long = text.chars().count() > LONG;
         self.calls.push(if long {
@@ -362,9 +392,9 @@ impl<P: Player> Trial<'_, P> {
         });
     }
 
-    fn play_tick(&mut self, length: usize) -> String {
+    fn play_tick(&mut self, order: MixOrder, length: usize) -> String {
         let mut output = vec![LENT; length];
-        let answer = self.engine.tick(&mut output, &self.pool);
+        let answer = self.engine.tick(order, &mut output, &self.pool);
         if answer.refusal() != 0 {
             untouched(&output);
             return says(answer);
@@ -377,13 +407,19 @@ impl<P: Player> Trial<'_, P> {
         )
     }
 
-    fn play_block(&mut self, size: u8, length: usize, scratch: Option<usize>) -> String {
+    fn play_block(
+        &mut self,
+        order: MixOrder,
+        size: u8,
+        length: usize,
+        scratch: Option<usize>,
+    ) -> String {
         let mut output = vec![LENT; length];
         let mut lent = vec![LENT; scratch.unwrap_or(0)];
         let given = scratch.map(|_| &mut lent[..]);
         let answer = self
             .engine
-            .block(size.into(), &mut output, given, &self.pool);
+            .block(order, size.into(), &mut output, given, &self.pool);
         if answer.refusal() != 0 {
             untouched(&output);
             untouched(&lent);
@@ -494,7 +530,7 @@ fn source_text(source: Source) -> String {
     }
 }
 
-fn call_text(call: &Call) -> String {
+fn call_text(call: &Call, order: MixOrder) -> String {
     match call {
         Call::Push(kind, push, _) => {
             let kind = match kind {
@@ -524,13 +560,13 @@ fn call_text(call: &Call) -> String {
                 double(edit.fade_out)
             )
         }
-        Call::TickLent(length) => format!("tick pool (quarters {length})"),
+        Call::TickLent(length) => format!("tick {order:?} pool (quarters {length})"),
         Call::BlockLent(size, output, scratch) => {
             let scratch = match scratch {
                 Some(length) => format!("(some (quarters {length}))"),
                 None => "none".into(),
             };
-            format!("block {size} pool (quarters {output}) {scratch}")
+            format!("block {order:?} {size} pool (quarters {output}) {scratch}")
         }
         Call::Reset => "reset".into(),
         Call::Rate(rate) => format!("rate {}", double(*rate)),
@@ -637,7 +673,7 @@ fn edits_text(state: &State) -> String {
 }
 
 /// One list as a trial, with the answers of a player of this kind.
-fn trial<P: Player>(random: &mut Random, gains: bool) -> String {
+fn trial<P: Player>(random: &mut Random, beyond: Beyond) -> String {
     let channels = random.pick(&[1, 1, 1, 2, 2, 3]);
     let channels = if random.chance(2) {
         random.pick(&[0, 9])
@@ -652,7 +688,7 @@ fn trial<P: Player>(random: &mut Random, gains: bool) -> String {
         random,
         first: engine.state().next,
         engine,
-        gains,
+        beyond,
         pool: POOL.into(),
         calls: Vec::new(),
     };
@@ -660,9 +696,15 @@ fn trial<P: Player>(random: &mut Random, gains: bool) -> String {
         let rate = trial.random.pick(RATES);
         trial.play(&Call::Rate(rate));
     }
-    for place in 0..trial.random.between(0, 11) {
-        let call = if place < 2 {
+    let (fewest, chord) = match beyond {
+        Beyond::Marks => (8, 4),
+        _ => (0, 2),
+    };
+    for place in 0..trial.random.between(fewest, 11) {
+        let call = if place < chord {
             trial.push()
+        } else if beyond == Beyond::Marks && trial.random.chance(80) {
+            trial.tick_or_small_block()
         } else {
             trial.call()
         };
@@ -696,7 +738,7 @@ fn trial<P: Player>(random: &mut Random, gains: bool) -> String {
 
 const HEAD: &str = "\
 -- GENERATED by the oracle's `ledgerlists`: random lists of calls, each with what the Rust sequencer answers, writes and holds after it. The ledger has the same. Assumes nothing.
--- The last group has gains other than 1.0, which the Rust has not: its answers are those of the oracle's second ledger, written in Rust from the documents.
+-- The last two groups have gains other than 1.0, and marked calls, which the Rust has not: their answers are those of the oracle's second ledger, written in Rust from the documents.
 use mathlib.Core.Path.{_≡_, refl}
 use mathlib.Core.Bool.{true, false}
 use mathlib.Core.List.{List, [], _∷_}
@@ -704,6 +746,7 @@ use mathlib.Core.Option.{none, some}
 use lib.IntN.{pos, negsuc}
 use lib.Ieee.{Float, nan, inf, fin}
 use Rattle.event.specs.declared.Fade.the-variants.{Power, Smooth}
+use Rattle.event.specs.declared.MixOrder.the-variants.{Forward, Backward}
 use Rattle.event.specs.declared.ReplayMode.the-variants.{All, None}
 use Rattle.event.specs.declared.Source.the-variants.{Held, Ramp, Clip}
 use Rattle.ledger.specs.Calls.{push, edit, tick, block, rate, reset, absolute, relative, byDuration, absoluteEnd, relativeEnd, number, applied, past, stored, done, refused}
@@ -719,12 +762,15 @@ fn main() {
     );
     let groups = LISTS / GROUP;
     for group in 1..=groups {
-        let trials = (0..GROUP).map(|_| trial::<Engine>(&mut random, false));
+        let trials = (0..GROUP).map(|_| trial::<Engine>(&mut random, Beyond::Nothing));
         print_group(group, trials.collect());
     }
     let mut random = Random(GAINS_SEED);
-    let trials = (0..GROUP).map(|_| trial::<Ledger>(&mut random, true));
+    let trials = (0..GROUP).map(|_| trial::<Ledger>(&mut random, Beyond::Gains));
     print_group(groups + 1, trials.collect());
+    let mut random = Random(MARKS_SEED);
+    let trials = (0..GROUP).map(|_| trial::<Ledger>(&mut random, Beyond::Marks));
+    print_group(groups + 2, trials.collect());
 }
 
 fn print_group(group: usize, trials: Vec<String>) {

@@ -190,9 +190,16 @@ impl Composer<'_> {
         self.clock += samples / self.rate;
     }
 
+    /// Whether the next tick or block has the mark.
+    fn marked(&mut self) -> bool {
+        self.profile.marks > 0 && self.random.chance(self.profile.marks)
+    }
+
     fn tick(&mut self) {
         self.advance(1.0);
-        self.calls.push(Call::Tick);
+        let marked = self.marked();
+        self.calls
+            .push(if marked { Call::MarkedTick } else { Call::Tick });
     }
 
     fn block_size(&mut self) -> u8 {
@@ -212,7 +219,12 @@ impl Composer<'_> {
         if size <= 64 {
             self.advance(size.into());
         }
-        self.calls.push(Call::Block(size));
+        let marked = self.marked();
+        self.calls.push(if marked {
+            Call::MarkedBlock(size)
+        } else {
+            Call::Block(size)
+        });
     }
 
     fn lent(&mut self) {
@@ -310,6 +322,9 @@ impl Composer<'_> {
 
     /// A fade that an event of this duration may have.
     fn fade(&mut self, duration: f64) -> f64 {
+        if self.profile.multiples {
+            return self.random.pick(&[0.0, 0.0, -0.0, -1.0]);
+        }
         let fade = match self.random.below(10) {
             0..=2 => 0.0,
             3 => duration,
@@ -329,7 +344,29 @@ impl Composer<'_> {
         }
     }
 
+    /// A source of multiples of 1/32768 within -1 and 1; those of the pool are.
+    fn multiples(&mut self) -> Source {
+        let level = match self.random.below(6) {
+            0 => self.random.pick(&[1.0, -1.0, 0.0, -0.0]),
+            _ => self.random.between(-32_768, 32_768) as f32 / 32_768.0,
+        };
+        match self.random.below(4) {
+            0 => Source::Clip {
+                offset: self.random.below(4096) as u32,
+                length: self.random.below(300) as u32,
+            },
+            1 => Source::Ramp {
+                value: level,
+                step: 0.0,
+            },
+            _ => Source::Held { level },
+        }
+    }
+
     fn source(&mut self) -> Source {
+        if self.profile.multiples {
+            return self.multiples();
+        }
         let level = |composer: &mut Self| {
             if composer.wild() {
                 composer.random.pick(wild::SAMPLES)
@@ -417,7 +454,7 @@ impl Composer<'_> {
                 _ => fade_out = value,
             }
         }
-        if self.random.chance(1) {
+        if self.random.chance(1) && !self.profile.multiples {
             fade_in = length.next_up();
         }
         let curve = self.random.pick(&[Curve::Power, Curve::Smooth]);

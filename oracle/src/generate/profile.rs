@@ -56,6 +56,10 @@ pub struct Profile {
     pub mode_none: u64,
     pub rates: &'static [f64],
     pub gains: Gains,
+    /// Percent of ticks and blocks that are marked (document 02, Paper 9).
+    pub marks: u64,
+    /// Whether every source gives multiples of 1/32768 within -1 and 1, and no fade acts.
+    pub multiples: bool,
     /// Percent of numbers taken from the limits and beyond.
     pub wild: u64,
     /// Greatest block size; percent of larger ones.
@@ -109,6 +113,8 @@ const SMALL: Profile = Profile {
     mode_none: 50,
     rates: RATES,
     gains: Gains::None,
+    marks: 0,
+    multiples: false,
     wild: 0,
     blocks: (64, 0),
     longest: 100,
@@ -398,6 +404,46 @@ pub const PROFILES: &[Profile] = &[
             lent: 0,
         },
         gains: Gains::Any,
+        ..SMALL
+    },
+    Profile {
+        name: "desk-marks",
+        about: "desk script: ticks and blocks with the mark, many sounding events with early finishes",
+        format: Format::Desk,
+        calls: (20, 120),
+        opening: Opening::Chord,
+        weights: Weights {
+            push: 45,
+            tick: 35,
+            block: 15,
+            reset: 1,
+            rate: 1,
+            front_reset: 1,
+            ..EVEN
+        },
+        rates: UNEVEN_RATES,
+        gains: Gains::One,
+        marks: 60,
+        blocks: (8, 0),
+        longest: 60,
+        ..SMALL
+    },
+    Profile {
+        name: "desk-marks-alike",
+        about: "desk script: marked calls without consequence, on multiples of 1/32768",
+        format: Format::Desk,
+        calls: (40, 160),
+        opening: Opening::Chord,
+        weights: Weights {
+            push: 45,
+            reset: 1,
+            rate: 1,
+            front_reset: 1,
+            ..EVEN
+        },
+        gains: Gains::One,
+        marks: 60,
+        multiples: true,
         ..SMALL
     },
     Profile {

@@ -4,7 +4,7 @@ use super::engine::{Ledger, push_end};
 use super::event::{Event, edit_state};
 use super::mutation::Mutation;
 use super::refusals;
-use crate::call::{Edit, Mode, Push, PushKind, Timing};
+use crate::call::{Edit, MixOrder, Mode, Push, PushKind, Timing};
 use crate::player::{Answer, Places, Player, Pool};
 use crate::state::{Counts, MessageState, State};
 use std::collections::VecDeque;
@@ -139,18 +139,19 @@ impl Player for DeskLedger {
         Answer::Queued
     }
 
-    fn tick(&mut self, output: &mut [f32], pool: &Pool) -> Answer {
+    fn tick(&mut self, order: MixOrder, output: &mut [f32], pool: &Pool) -> Answer {
         if let Some(refused) = refusals::first(&refusals::tick(&self.ledger, output.len())) {
             return refused;
         }
         self.drain();
-        self.ledger.tick_samples(output, pool);
+        self.ledger.tick_samples(order, output, pool);
         self.give_back_finished();
         Answer::Done
     }
 
     fn block(
         &mut self,
+        order: MixOrder,
         size: usize,
         output: &mut [f32],
         scratch: Option<&mut [f32]>,
@@ -162,7 +163,8 @@ impl Player for DeskLedger {
             return refused;
         }
         self.drain();
-        self.ledger.block_samples(size, output, scratch, pool);
+        self.ledger
+            .block_samples(order, size, output, scratch, pool);
         self.give_back_finished();
         Answer::Done
     }

@@ -5,7 +5,7 @@ use super::mutation::Mutation;
 use super::numbers::total_order;
 use super::refusals;
 use super::samples::{self, Times};
-use crate::call::{Edit, Mode, Push, PushKind, Timing};
+use crate::call::{Edit, MixOrder, Mode, Push, PushKind, Timing};
 use crate::player::{Answer, Places, Player, Pool};
 use crate::state::{Counts, State};
 use std::cmp::Ordering;
@@ -30,7 +30,7 @@ pub struct Ledger {
     pub d: f64,
     /// The next number, 0 after 2^64 - 1 has been given.
     pub next: u64,
-    /// Samples that the last sounding event gave to the scratch in the last block.
+    /// Samples that the event added last gave to the scratch in the last block.
     given: usize,
     /// How the last block's places came.
     places: Places,
@@ -195,24 +195,42 @@ impl Ledger {
         }
     }
 
+    /// Document 02, Paper 9: the contributions of the sounding events, which come in S order, as they are added.
+    fn in_order<T>(&self, order: MixOrder, mut contributions: Vec<T>, before: &[u64]) -> Vec<T> {
+        if order == MixOrder::Forward || self.mutation == Some(Mutation::MarkIgnored) {
+            return contributions;
+        }
+        if self.mutation == Some(Mutation::MarkBeforeMoves) {
+            let numbers: Vec<u64> = self.sounding.iter().map(|event| event.number).collect();
+            let mut numbered: Vec<(u64, T)> = numbers.into_iter().zip(contributions).collect();
+            numbered.sort_by_key(|(number, _)| before.iter().rposition(|other| other == number));
+            contributions = numbered.into_iter().map(|(_, part)| part).collect();
+        }
+        contributions.reverse();
+        contributions
+    }
+
     /// An accepted tick.
-    pub fn tick_samples(&mut self, output: &mut [f32], pool: &[f32]) {
+    pub fn tick_samples(&mut self, order: MixOrder, output: &mut [f32], pool: &[f32]) {
         let e = self.t + self.d;
         self.begin(e);
         output.fill(0.0);
+        let before: Vec<u64> = self.sounding.iter().map(|event| event.number).collect();
         let (times, mutation) = (self.times(e), self.mutation);
-        self.sweep(|event| {
-            let sample = samples::tick(event, times, pool, mutation);
+        let mut contributions = Vec::new();
+        self.sweep(|event| contributions.push(samples::tick(event, times, pool, mutation)));
+        for sample in self.in_order(order, contributions, &before) {
             for place in output.iter_mut() {
                 *place += sample;
             }
-        });
+        }
         self.t = e;
     }
 
     /// An accepted block of n samples.
     pub fn block_samples(
         &mut self,
+        order: MixOrder,
         n: usize,
         output: &mut [f32],
         mut scratch: Option<&mut [f32]>,
@@ -228,12 +246,16 @@ impl Ledger {
         }
         let e = self.t + self.d * n as f64;
         self.begin(e);
+        let before: Vec<u64> = self.sounding.iter().map(|event| event.number).collect();
         let (times, mutation) = (self.times(e), self.mutation);
         let (mut given, mut places) = (0, Places::default());
+        let mut contributions = Vec::new();
         self.sweep(|event| {
-            let (run, s) = samples::block(event, n, times, pool, mutation, &mut places);
+            contributions.push(samples::block(event, n, times, pool, mutation, &mut places));
+        });
+        for (run, s) in self.in_order(order, contributions, &before) {
             if run.is_empty() {
-                return;
+                continue;
             }
             given = run.len();
             for channel in output.chunks_exact_mut(64) {
@@ -244,7 +266,7 @@ impl Ledger {
             if let Some(scratch) = &mut scratch {
                 scratch[..run.len()].copy_from_slice(&run);
             }
-        });
+        }
         (self.given, self.places) = (given, places);
         self.t = e;
     }
@@ -252,7 +274,7 @@ impl Ledger {
     fn block_as_ticks(&mut self, n: usize, output: &mut [f32], pool: &[f32]) {
         let mut frame = vec![0.0; self.channels];
         for place in 0..n {
-            self.tick_samples(&mut frame, pool);
+            self.tick_samples(MixOrder::Forward, &mut frame, pool);
             for (channel, sample) in frame.iter().enumerate() {
                 output[64 * channel + place] = *sample;
             }
@@ -339,16 +361,17 @@ impl Player for Ledger {
         self.accept_edit(timing, edit)
     }
 
-    fn tick(&mut self, output: &mut [f32], pool: &Pool) -> Answer {
+    fn tick(&mut self, order: MixOrder, output: &mut [f32], pool: &Pool) -> Answer {
         if let Some(refused) = refusals::first(&refusals::tick(self, output.len())) {
             return refused;
         }
-        self.tick_samples(output, pool);
+        self.tick_samples(order, output, pool);
         Answer::Done
     }
 
     fn block(
         &mut self,
+        order: MixOrder,
         size: usize,
         output: &mut [f32],
         scratch: Option<&mut [f32]>,
@@ -358,7 +381,7 @@ impl Player for Ledger {
         if let Some(refused) = refusals::first(&refusals::block(self, size, output.len(), lent)) {
             return refused;
         }
-        self.block_samples(size, output, scratch, pool);
+        self.block_samples(order, size, output, scratch, pool);
         Answer::Done
     }
 

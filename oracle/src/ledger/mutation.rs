@@ -28,10 +28,14 @@ pub enum Mutation {
     BlockAsTicks,
     /// The desk handles a reset message without draining first.
     QueueFlat,
+    /// A marked call adds in the list's order.
+    MarkIgnored,
+    /// A marked call adds from the end of the list before events finish and others fill their places.
+    MarkBeforeMoves,
 }
 
 impl Mutation {
-    pub const ALL: [Mutation; 13] = [
+    pub const ALL: [Mutation; 15] = [
         Mutation::SwapOrderIgnored,
         Mutation::MovedEventSkipped,
         Mutation::FadeByRate,
@@ -45,6 +49,8 @@ impl Mutation {
         Mutation::ResetEmptiesEdits,
         Mutation::BlockAsTicks,
         Mutation::QueueFlat,
+        Mutation::MarkIgnored,
+        Mutation::MarkBeforeMoves,
     ];
 
     pub fn name(self) -> &'static str {
@@ -62,6 +68,8 @@ impl Mutation {
             Mutation::ResetEmptiesEdits => "reset-empties-edits",
             Mutation::BlockAsTicks => "block-as-ticks",
             Mutation::QueueFlat => "queue-flat",
+            Mutation::MarkIgnored => "mark-ignored",
+            Mutation::MarkBeforeMoves => "mark-before-moves",
         }
     }
 

@@ -3,6 +3,7 @@ use borrow.Author.Needs.{needs}
 use mathlib.Core.Path.{sym}
 use Prim.Native.Nat.{ℕ, _*_}
 use denote.Ref.{now}
+use Rattle.event.specs.declared.MixOrder.the-variants.{Forward}
 use Rattle.sequencer.specs.Rendering.{blocks, blockOuts}
 use Rattle.apply.specs.Applying.{processing, processingOut}
 use Rattle.apply.proofs.Lent.{front-length, lent-answer, lent-output}
@@ -18,8 +19,8 @@ returns c =
     let t = c .before .before .before .process .ensures in
     let d = c .before .before .before .before .before in
     let a = d .before .before .before .before .args in (
-      lent-answer (now (a .out)) (λ (k : ℕ). 64 * k) (d .before .least .ensures) (d .least2 .ensures) (λ (n : ℕ). blocks (now (a .pool)) (a .size) n (a .s)) (a .size) 64 (t .0) (c .sounding .ensures),
-      lent-output (now (a .out)) (λ (k : ℕ). 64 * k) (d .before .least .ensures) (d .least2 .ensures) (blockOuts (now (a .pool)) (a .size) (a .s)) (t .1),
+      lent-answer (now (a .out)) (λ (k : ℕ). 64 * k) (d .before .least .ensures) (d .least2 .ensures) (λ (n : ℕ). blocks Forward (now (a .pool)) (a .size) n (a .s)) (a .size) 64 (t .0) (c .sounding .ensures),
+      lent-output (now (a .out)) (λ (k : ℕ). 64 * k) (d .before .least .ensures) (d .least2 .ensures) (blockOuts Forward (now (a .pool)) (a .size) (a .s)) (t .1),
     )
 
 pub process-spec : {M : Type 1} → statement M

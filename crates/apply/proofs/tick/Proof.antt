@@ -3,6 +3,7 @@ use borrow.Author.Needs.{needs}
 use mathlib.Core.Path.{sym}
 use Prim.Native.Nat.{ℕ}
 use denote.Ref.{now}
+use Rattle.event.specs.declared.MixOrder.the-variants.{Forward}
 use Rattle.sequencer.specs.Rendering.{ticks, tickOuts}
 use Rattle.apply.specs.Applying.{ticking, tickingOut}
 use Rattle.apply.proofs.Lent.{front-length, lent-answer, lent-output}
@@ -18,8 +19,8 @@ returns c =
     let t = c .before .before .before .tick .ensures in
     let d = c .before .before .before .before .before in
     let a = d .before .before .before .before .args in (
-      lent-answer (now (a .out)) (λ (k : ℕ). k) (d .before .least .ensures) (d .least2 .ensures) (λ (n : ℕ). ticks (now (a .pool)) n (a .s)) 1 1 (t .0) (c .sounding .ensures),
-      lent-output (now (a .out)) (λ (k : ℕ). k) (d .before .least .ensures) (d .least2 .ensures) (tickOuts (now (a .pool)) (a .s)) (t .1),
+      lent-answer (now (a .out)) (λ (k : ℕ). k) (d .before .least .ensures) (d .least2 .ensures) (λ (n : ℕ). ticks Forward (now (a .pool)) n (a .s)) 1 1 (t .0) (c .sounding .ensures),
+      lent-output (now (a .out)) (λ (k : ℕ). k) (d .before .least .ensures) (d .least2 .ensures) (tickOuts Forward (now (a .pool)) (a .s)) (t .1),
     )
 
 pub tick-spec : {M : Type 1} → statement M

@@ -10,6 +10,7 @@ use borrow.Rule.Slice.PartMut.{same-len-mid}
 use denote.Ref.{now}
 use lib.Ieee.{Float, ofBits}
 use lib.ListN.{length, getD, take, drop, replicate}
+use Rattle.event.specs.declared.MixOrder.{MixOrder}
 use Rattle.event.specs.declared.Placings.{Placings}
 use Rattle.event.specs.Events.{blank}
 use Rattle.event.specs.Placings.{noPlacings}
@@ -40,29 +41,29 @@ abbrev until : Sequencer → ℕ → Float → Span
 until s n e = record { size = min 64 n; clock = s .time; upto = e; rate = s .«sample_rate»; duration = s .«sample_duration» }
 
 -- S and x are the engine and the channel after it
-abbrev Done : (pool : List Float) → (n : ℕ) → (s S : Sequencer) → (x : List Float) → (e : Float) → Type 0
-Done pool n s S x e =
-    let r = passOf (afterBlock (until s n e)) (addBlock pool (until s n e)) (replicate (clearedPlaces n) zeroᶠ) (advanced s e) in
+abbrev Done : MixOrder → (pool : List Float) → (n : ℕ) → (s S : Sequencer) → (x : List Float) → (e : Float) → Type 0
+Done order pool n s S x e =
+    let r = passOf (afterBlock (until s n e)) (addBlock pool (until s n e)) (replicate (clearedPlaces n) zeroᶠ) order (advanced s e) in
     (S ≡ withSounding (advanced s e) (r .items)) × (x ≡ r .sum)
 
 -- c is how its places came
-abbrev Counted : (n : ℕ) → (s : Sequencer) → (c : Placings) → (e : Float) → Type 0
-Counted n s c e = c ≡ passOf (afterBlock (until s n e)) (addPlaces (until s n e)) noPlacings (advanced s e) .sum
+abbrev Counted : MixOrder → (n : ℕ) → (s : Sequencer) → (c : Placings) → (e : Float) → Type 0
+Counted order n s c e = c ≡ passOf (afterBlock (until s n e)) (addPlaces (until s n e)) noPlacings order (advanced s e) .sum
 
 abbrev Inv-loop : tie.InvT-loop
-Inv-loop size pool out self time end span limit threshold n k₀ k = Scanning limit self n k
+Inv-loop order size pool out self time end span limit threshold n k₀ k = Scanning limit self n k
 
 abbrev μ-loop : tie.MeasureT-loop
-μ-loop size pool out self time end span limit threshold n k₀ k = n - k
+μ-loop order size pool out self time end span limit threshold n k₀ k = n - k
 
 abbrev Inv-loop2 : tie.InvT-loop2
-Inv-loop2 size pool out self₀ time end span limit threshold n k m w places₀ mix₀ i₀ self places mix i =
-    Passing (afterBlock (asSpan span)) (addBlock pool (asSpan span)) (replicate (clearedPlaces size) zeroᶠ) self₀ m i self (take w mix)
-    × Passing (afterBlock (asSpan span)) (addPlaces (asSpan span)) noPlacings self₀ m i self places
+Inv-loop2 order size pool out self₀ time end span limit threshold n k m w places₀ mix₀ i₀ self places mix i =
+    Passing (afterBlock (asSpan span)) (addBlock pool (asSpan span)) (replicate (clearedPlaces size) zeroᶠ) order self₀ m i self (take w mix)
+    × Passing (afterBlock (asSpan span)) (addPlaces (asSpan span)) noPlacings order self₀ m i self places
     × (length mix ≡ 64)
 
 abbrev μ-loop2 : tie.MeasureT-loop2
-μ-loop2 size pool out self₀ time end span limit threshold n k m w places₀ mix₀ i₀ self places mix i = m - i
+μ-loop2 order size pool out self₀ time end span limit threshold n k m w places₀ mix₀ i₀ self places mix i = m - i
 
 -- the engine's count of those let go is a u64
 let-go-fits : (c : tie.Start Inv-loop μ-loop Inv-loop2 μ-loop2) → c .args .t1 .«let_go» < 2 ^ 64
@@ -88,17 +89,18 @@ loop2-holds c =
     )
 
 part-mix-end : tie.Need-part-mix-end Inv-loop μ-loop Inv-loop2 μ-loop2
-part-mix-end c = omega (arith, c .before .before .before .before .cleared-places .ensures, c .before .before .loop2 .inv .2)
+part-mix-end c = omega (arith, c .before .before .before .before .before .cleared-places .ensures, c .before .before .before .loop2 .inv .2)
 
 mul-event-3 : tie.Need-mul-event-3 Inv-loop μ-loop Inv-loop2 μ-loop2
-mul-event-3 c = omega (arith, c .before .before .before .before .before .before .loop2 .inv .0 .count, c .before .before .before .before .before .loop2-test .taken)
+mul-event-3 c = omega (arith, c .before .before .before .before .before .before .before .loop2 .inv .0 .count, c .before .before .before .before .before .mix-place .ensures .1)
 
 element-set-from-event : tie.Need-element-set-from-event Inv-loop μ-loop Inv-loop2 μ-loop2
-element-set-from-event c = omega (arith, c .before .before .before .before .before .before .loop2 .inv .0 .count, c .before .before .before .before .before .loop2-test .taken)
+element-set-from-event c = omega (arith, c .before .before .before .before .before .before .before .loop2 .inv .0 .count, c .before .before .before .before .before .mix-place .ensures .1)
 
 loop2-again : tie.Need-loop2-again Inv-loop μ-loop Inv-loop2 μ-loop2
 loop2-again c =
-    let t = c .before .before .before .before .before .before in
+    let p = c .before .before .before .before .before .before in
+    let t = p .before in
     let l = t .before .loop2 in
     let d = t .before .before .before in
     let k = d .cleared-places .result in
@@ -109,10 +111,10 @@ loop2-again c =
     let q : take k (ys ++ drop (k - 0) (l .mix)) ≡ ys = take-at ys (drop (k - 0) (l .mix)) k (kept ∙ rw sub-zero (length-take-le k (l .mix) h)) in
     let a = d .before .before .before .before .before .before .before .before .before .before .before .args in
     let b = until (a .t1) (a .size) (endBy (a .t1) (d .before .before .before .before .before .before .before .before .nearest-u64-to-f64 .result)) in
-    let v : ys ≡ channelAfter (now (a .pool)) b (getD (l .self .active) (l .i) blank) (take k (l .mix)) = r .ensures .1 ∙ rw sub-zero in
+    let v : ys ≡ channelAfter (now (a .pool)) b (getD (l .self .active) (p .mix-place .result) blank) (take k (l .mix)) = r .ensures .1 ∙ rw sub-zero in
     let e = ap (λ (p : Processed). p .event) (r .ensures .0) in (
-      passing-on e (q ∙ v) (t .loop2-test .taken) (l .inv .0),
-      passing-on e (ap (λ (p : Processed). p .places) (r .ensures .0)) (t .loop2-test .taken) (l .inv .1),
+      passing-on (p .mix-place .ensures .0) e (q ∙ v) (t .loop2-test .taken) (l .inv .0),
+      passing-on (p .mix-place .ensures .0) e (ap (λ (p : Processed). p .places) (r .ensures .0)) (t .loop2-test .taken) (l .inv .1),
       same-len-mid 0 (k - 0) (l .mix) ys kept ∙ l .inv .2,
     )
 
@@ -130,8 +132,8 @@ returns c =
     let a = d .before .before .before .before .before .before .before .before .before .before .before .args in
     let out = now (a .out) in
     let q = ap (endBy (a .t1)) (d .before .before .before .before .before .before .before .before .nearest-u64-to-f64 .ensures ∙ sym (whole-is (a .size))) in
-    let w = subst (Done (now (a .pool)) (a .size) (a .t1) (l .self) (take k (l .mix))) q (passing-end (begun j) (e .loop2-test .left) (l .inv .0)) in
-    let v = subst (Counted (a .size) (a .t1) (l .places)) q (passing-end (begun j) (e .loop2-test .left) (l .inv .1) .1) in
+    let w = subst (Done (a .order) (now (a .pool)) (a .size) (a .t1) (l .self) (take k (l .mix))) q (passing-end (begun j) (e .loop2-test .left) (l .inv .0)) in
+    let v = subst (Counted (a .order) (a .size) (a .t1) (l .places)) q (passing-end (begun j) (e .loop2-test .left) (l .inv .1) .1) in
     let p : take (k - 0) (l .mix) ≡ take k (l .mix) = rw sub-zero in
     (ap₂ (λ (s : Sequencer) (c : Placings). record { sequencer = s; places = c }) (w .0) v, c .before .before .overlay-channels .ensures ∙ ap (λ (run : List Float). overlay (length out / 64) (take 64 run) out) (p ∙ w .1))
 
@@ -140,7 +142,7 @@ render-block-spec =
     tie.close
     (tie.spec Inv-loop μ-loop Inv-loop2 μ-loop2 (λ c κs. search needs) (λ c κs. search needs) (λ c. scanning-start (c .least .ensures))
     (λ c. search needs) (λ c. search needs) (λ c. search needs) (λ c. search needs) loop-again (λ c. search needs) (λ c κs. search needs)
-    (λ c κs. search needs) (λ c κs. search needs) (λ c κs. search needs) (λ c κs. search needs) loop2-holds (λ c. search needs) (λ c. search needs)
+    (λ c κs. search needs) (λ c κs. search needs) (λ c κs. search needs) (λ c κs. search needs) loop2-holds (λ c κs. search needs) (λ c. search needs) (λ c. search needs)
     (λ c. search needs) (λ c. search needs) part-mix-end (λ c κs. search needs) mul-event-3 element-set-from-event (λ c. search needs)
     (λ c. search needs) loop2-again (λ c. search needs) (λ c. search needs) part-overlay-channels-end (λ c κs. search needs)
     (λ c. search needs) returns)

@@ -15,16 +15,16 @@ use Rattle.sequencer.proofs.Sequencer.render_tick.Statement.{statement}
 use Rattle.sequencer.proofs.Sequencer.render_tick.Tie as tie
 
 abbrev Inv-loop : tie.InvT-loop
-Inv-loop pool out self time end limit threshold n k₀ k = Scanning limit self n k
+Inv-loop order pool out self time end limit threshold n k₀ k = Scanning limit self n k
 
 abbrev μ-loop : tie.MeasureT-loop
-μ-loop pool out self time end limit threshold n k₀ k = n - k
+μ-loop order pool out self time end limit threshold n k₀ k = n - k
 
 abbrev Inv-loop2 : tie.InvT-loop2
-Inv-loop2 pool out self₀ time end limit threshold n k m sum₀ i₀ self sum i = Passing afterTick (addTick pool time) zeroᶠ self₀ m i self sum
+Inv-loop2 order pool out self₀ time end limit threshold n k m sum₀ i₀ self sum i = Passing afterTick (addTick pool time) zeroᶠ order self₀ m i self sum
 
 abbrev μ-loop2 : tie.MeasureT-loop2
-μ-loop2 pool out self₀ time end limit threshold n k m sum₀ i₀ self sum i = m - i
+μ-loop2 order pool out self₀ time end limit threshold n k m sum₀ i₀ self sum i = m - i
 
 begun : (c : tie.Joined2 Inv-loop μ-loop Inv-loop2 μ-loop2) → (let s = c .before .before .before .before .before .before .before .before .args .t1 in c .if2 .self ≡ advanced s (tickEnd s))
 unfolding ofBits
@@ -40,7 +40,9 @@ unfolding ofBits
 loop2-holds c = passing-start (c .least2 .ensures) refl
 
 loop2-again : tie.Need-loop2-again Inv-loop μ-loop Inv-loop2 μ-loop2
-loop2-again c = passing-on (c .after-tick .ensures) (ap (λ x. c .before .before .before .before .loop2 .sum +ˢ x) (c .before .tick-sample .ensures)) (c .before .before .before .loop2-test .taken) (c .before .before .before .before .loop2 .inv)
+loop2-again c =
+    let p = c .before .before .before in
+    passing-on (p .mix-place .ensures .0) (c .after-tick .ensures) (ap (λ x. p .before .before .loop2 .sum +ˢ x) (c .before .tick-sample .ensures)) (p .before .loop2-test .taken) (p .before .before .loop2 .inv)
 
 returns : tie.Need-returns Inv-loop μ-loop Inv-loop2 μ-loop2
 unfolding renderedTick renderedTickOut tickPass
@@ -53,6 +55,6 @@ render-tick-spec =
     tie.close
     (tie.spec Inv-loop μ-loop Inv-loop2 μ-loop2 (λ c κs. search needs) (λ c. scanning-start (c .least .ensures)) (λ c. search needs)
     (λ c. search needs) (λ c. search needs) (λ c. search needs) loop-again (λ c. search needs) (λ c κs. search needs) (λ c κs. search needs)
-    (λ c κs. search needs) loop2-holds (λ c. search needs) (λ c. search needs) (λ c κs. search needs) (λ c κs. search needs)
+    (λ c κs. search needs) loop2-holds (λ c κs. search needs) (λ c. search needs) (λ c. search needs) (λ c κs. search needs) (λ c κs. search needs)
     (λ c. search needs) (λ c. search needs) (λ c. search needs) (λ c. search needs) loop2-again (λ c κs. search needs) (λ c. search needs)
     returns)

@@ -1,0 +1,11 @@
+pub mod Multiples
+pub mod Addition
+pub mod Exact
+pub mod Theorem
+pub mod Cases
+pub mod Contributions
+pub mod AnyOrder
+pub mod Qualifying
+pub mod Marked
+pub mod Engines
+pub mod CasesOfOrder
