@@ -124,9 +124,12 @@ fn push(s: Sequencer, kind: u8, p: PushRecord) -> Outcome
     let source = p.source;
     let gain = p.gain;
     match kind {
-        1 => s.push(start, end, ease, fade_in, fade_out, source, gain),
-        2 => s.push_relative(start, end, ease, fade_in, fade_out, source, gain),
-        _ => s.push_duration(start, end, ease, fade_in, fade_out, source, gain),
+        1 => s.push(start, end, ease, fade_in, fade_out, source, gain)
+            .outcome(),
+        2 => s.push_relative(start, end, ease, fade_in, fade_out, source, gain)
+            .outcome(),
+        _ => s.push_duration(start, end, ease, fade_in, fade_out, source, gain)
+            .outcome(),
     }
 }
 

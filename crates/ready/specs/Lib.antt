@@ -2,6 +2,7 @@ pub mod Sift
 pub mod Waiting
 pub mod Steps
 pub mod Rounds
+pub mod Levels
 pub mod HeapOrder
 pub mod Sorted
 pub mod Stands

@@ -5,6 +5,7 @@ pub mod Turns
 pub mod Answers
 pub mod Creation
 pub mod Pushes
+pub mod Rises
 pub mod Edits
 pub mod Resets
 pub mod Rendering

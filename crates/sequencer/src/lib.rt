@@ -56,6 +56,19 @@ pub struct Outcome {
     pub answer: Answer,
 }
 
+// What a push gives: its outcome, and how many levels its event rose in the heap (document 02, Paper 13); 0 where it was refused or went straight to the sounding list.
+pub struct Pushed {
+    pub sequencer: Sequencer,
+    pub answer: Answer,
+    pub rise: usize,
+}
+
+// An engine that an event has entered, and how many levels the event rose.
+pub(crate) struct Entered {
+    sequencer: Sequencer,
+    rise: usize,
+}
+
 // An engine after a block, and how the block's places came.
 pub struct Rendered {
     pub sequencer: Sequencer,

@@ -2,6 +2,8 @@
 ghost use mathlib.Core.Path.{_≡_};
 ghost use Prim.Native.Nat.{min};
 ghost use Rattle.sequencer.specs.Moves.{pushedReady, pushedActive, pushedEvent, pushedRelative, readyToActive, activeToPast, releasedPast, advanced, allToReady};
+ghost use Rattle.sequencer.specs.Rises.{riseReady, riseOf};
+use crate::Entered;
 use crate::Sequencer;
 use event::Event;
 use event::ReplayMode;
@@ -12,13 +14,17 @@ impl Sequencer {
     // ---- one event
 
     // As `Ready::push`: the event goes up from the first free place, past every one that it precedes. The loop stands here so that the heap stays in the engine and no array is copied.
-    fn push_ready(mut self, event: Event) -> Sequencer
-        ensures { λ r. ⌜ r ≡ pushedReady self event ⌝ }
+    fn push_ready(mut self, event: Event) -> Entered
+        ensures { λ r. ⌜ r ≡ record { sequencer = pushedReady self event; rise = riseReady self event } ⌝ }
     {
         let n = self.ready_len;
         if 256 <= n {
-            return self;
+            return Entered {
+                sequencer: self,
+                rise: 0,
+            };
         }
+        let mut rise: usize = 0;
         let mut i = n;
         while 0 < i {
             let p = (i - 1) / 2;
@@ -28,10 +34,14 @@ impl Sequencer {
             }
             self.ready[i] = parent;
             i = p;
+            rise = rise + 1;
         }
         self.ready[i] = event;
         self.ready_len = n + 1;
-        self
+        Entered {
+            sequencer: self,
+            rise,
+        }
     }
 
     fn push_active(mut self, event: Event) -> Sequencer
@@ -50,13 +60,25 @@ impl Sequencer {
     // ---- a push, unchecked
 
     // Straight to the sounding list if it starts before the threshold, without looking for an edit; otherwise it waits.
+    pub(crate) fn enter(self, event: Event) -> Entered
+        ensures { λ r. ⌜ r ≡ record { sequencer = pushedEvent self event; rise = riseOf self event } ⌝ }
+    {
+        if event.start_time < self.active_threshold {
+            let s = self.push_active(event);
+            return Entered {
+                sequencer: s,
+                rise: 0,
+            };
+        }
+        self.push_ready(event)
+    }
+
+    // The same, and nobody asks for the rise.
     pub fn push_event(self, event: Event) -> Sequencer
         ensures { λ r. ⌜ r ≡ pushedEvent self event ⌝ }
     {
-        if event.start_time < self.active_threshold {
-            return self.push_active(event);
-        }
-        self.push_ready(event)
+        let entered = self.enter(event);
+        entered.sequencer
     }
 
     // The clock is added to start and end.

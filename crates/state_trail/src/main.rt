@@ -17,32 +17,35 @@ fn push(s: Sequencer, kind: u8, p: PushRecord) -> Outcome {
     let source = p.source;
     match kind {
         1 => s.push(
-            p.start_time,
-            p.end_time,
-            ease,
-            p.fade_in,
-            p.fade_out,
-            source,
-            p.gain,
-        ),
+                p.start_time,
+                p.end_time,
+                ease,
+                p.fade_in,
+                p.fade_out,
+                source,
+                p.gain,
+            )
+            .outcome(),
         2 => s.push_relative(
-            p.start_time,
-            p.end_time,
-            ease,
-            p.fade_in,
-            p.fade_out,
-            source,
-            p.gain,
-        ),
+                p.start_time,
+                p.end_time,
+                ease,
+                p.fade_in,
+                p.fade_out,
+                source,
+                p.gain,
+            )
+            .outcome(),
         _ => s.push_duration(
-            p.start_time,
-            p.end_time,
-            ease,
-            p.fade_in,
-            p.fade_out,
-            source,
-            p.gain,
-        ),
+                p.start_time,
+                p.end_time,
+                ease,
+                p.fade_in,
+                p.fade_out,
+                source,
+                p.gain,
+            )
+            .outcome(),
     }
 }
 

@@ -3,11 +3,12 @@ use borrow.Author.Needs.{needs}
 use Rattle.ledger.specs.Refusals.{statedEnd}
 use Rattle.ledger.specs.Steps.{pushedTime}
 use Rattle.sequencer.specs.Pushes.{pushes}
+use Rattle.sequencer.specs.Rises.{riseBy}
 use Rattle.sequencer.proofs.Sequencer.push_duration.Statement.{statement}
 use Rattle.sequencer.proofs.Sequencer.push_duration.Tie as tie
 
 returns : tie.Need-returns
-unfolding pushes statedEnd pushedTime
+unfolding pushes riseBy statedEnd pushedTime
 returns c = c .push-to .ensures
 
 pub push-duration-spec : {M : Type 1} → statement M

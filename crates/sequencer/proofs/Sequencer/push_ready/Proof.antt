@@ -1,31 +1,66 @@
 -- `sequencer::Sequencer::push_ready` meets its contract. Assumes nothing.
 use borrow.Author.Needs.{needs}
-use borrow.Author.Tests.{not-true, not-false}
+use borrow.Author.Tests.{not-true, not-false, lt-ltb, le-ltb}
 use mathlib.Core.Logic.{⊎-elim}
-use mathlib.Core.Path.{sym, _∙_}
+use mathlib.Core.Path.{_≡_, refl, sym, ap₂, _∙_}
+use native.Mathlib.Omega.{arith}
+use Prim.Native.Nat.{ℕ, _+_, _≤_, _<_}
+use Rattle.event.specs.declared.Event.{Event}
+use Rattle.event.specs.Events.{earlier, blank}
+use Rattle.ready.specs.Levels.{levels, Counting, counting-on, counted-root, counted-stop}
+use Rattle.sequencer.specs.declared.Sequencer.{Sequencer}
+use Rattle.sequencer.specs.declared.Entered.{Entered}
+use Rattle.sequencer.specs.Moves.{pushedReady}
+use Rattle.sequencer.specs.Rises.{riseReady}
 use Rattle.sequencer.specs.Rounds.{RisingIn, rising-in, rising-in-on, risen-in-root, risen-in-stop, full}
 use Rattle.sequencer.proofs.Sequencer.push_ready.Statement.{statement}
 use Rattle.sequencer.proofs.Sequencer.push_ready.Tie as tie
 
+-- the levels of the whole way
+abbrev total : Sequencer → Event → ℕ
+total s e = levels earlier blank (s .«ready_len») (s .ready) (s .«ready_len») e
+
+abbrev entry : Sequencer → ℕ → Entered
+entry t n = record { sequencer = t; rise = n }
+
+entered : (s t : Sequencer) (e : Event) (n : ℕ) → t ≡ pushedReady s e → n ≡ riseReady s e → entry t n ≡ entry (pushedReady s e) (riseReady s e)
+entered s t e n p q = ap₂ entry p q
+
+none-full : (s : Sequencer) (e : Event) → 256 ≤ s .«ready_len» → 0 ≡ riseReady s e
+unfolding riseReady
+none-full s e h = rw (le-ltb (s .«ready_len») 256 h)
+
+all-counted : (s : Sequencer) (e : Event) (n : ℕ) → s .«ready_len» < 256 → n ≡ total s e → n ≡ riseReady s e
+unfolding riseReady
+all-counted s e n h q = rw (lt-ltb (s .«ready_len») 256 h) q
+
 abbrev Inv-loop : tie.InvT-loop
-Inv-loop event self₀ n i₀ self i = RisingIn self₀ event i self
+Inv-loop event self₀ n rise₀ i₀ self rise i =
+    RisingIn self₀ event i self × Counting earlier blank (self₀ .ready) (self .ready) i event rise (total self₀ event) × (rise + i ≤ self₀ .«ready_len»)
 
 abbrev μ-loop : tie.MeasureT-loop
-μ-loop event self₀ n i₀ self i = i
+μ-loop event self₀ n rise₀ i₀ self rise i = i
+
+loop-holds : tie.Need-loop-holds Inv-loop μ-loop
+loop-holds c = (rising-in, record { same = λ j q. refl; fuel = c .before .args .t1 .«ready_len»; enough = omega arith; gives = omega arith }, omega arith)
 
 loop-again : tie.Need-loop-again Inv-loop μ-loop
 loop-again c =
-    rising-in-on (c .before .before .before .loop-test .taken) (sym (c .before .precedes .ensures) ∙ not-false _ (c .if2 .left))
-    (c .before .before .before .before .loop .inv)
+    let inv = c .before .before .before .before .loop .inv in
+    let more = c .before .before .before .loop-test .taken in
+    let soon = sym (c .before .precedes .ensures) ∙ not-false _ (c .if2 .left) in
+    (rising-in-on more soon (inv .0), counting-on earlier blank more soon (inv .1), omega (arith, inv .2, more))
 
 returns-2 : tie.Need-returns-2 Inv-loop μ-loop
 returns-2 c =
     let room = c .before .before .if1 .left in
-    ⊎-elim (λ w. risen-in-root room (w .left) (c .before .loop .inv))
-    (λ w. risen-in-stop room (sym (w .2 .ensures) ∙ not-true _ (w .3 .taken)) (c .before .loop .inv)) (c .loop-test .came)
+    let inv = c .before .loop .inv in
+    ⊎-elim (λ w. entered _ _ _ _ (risen-in-root room (w .left) (inv .0)) (all-counted _ _ _ room (counted-root earlier blank (w .left) (inv .1))))
+    (λ w. let late = sym (w .2 .ensures) ∙ not-true _ (w .3 .taken) in
+    entered _ _ _ _ (risen-in-stop room late (inv .0)) (all-counted _ _ _ room (counted-stop earlier blank (w .0 .taken) late (inv .1)))) (c .loop-test .came)
 
 pub push-ready-spec : {M : Type 1} → statement M
 push-ready-spec =
     tie.close
-    (tie.spec Inv-loop μ-loop (λ c. full _ _ (c .if1 .taken)) (λ c. rising-in) (λ c. search needs) (λ c. search needs) (λ c. search needs) (λ c κs. search needs) (λ c. search needs) (λ c. search needs) (λ c. search needs)
-    loop-again (λ c. search needs) (λ c. search needs) (λ c. search needs) returns-2)
+    (tie.spec Inv-loop μ-loop (λ c. entered _ _ _ _ (full _ _ (c .if1 .taken)) (none-full _ _ (c .if1 .taken))) loop-holds (λ c. search needs) (λ c. search needs) (λ c. search needs) (λ c κs. search needs)
+    (λ c. search needs) (λ c. search needs) (λ c. search needs) (λ c. search needs) loop-again (λ c. search needs) (λ c. search needs) (λ c. search needs) returns-2)

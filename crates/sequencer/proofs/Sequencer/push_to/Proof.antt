@@ -1,7 +1,8 @@
 -- `sequencer::Sequencer::push_to` meets its contract. Assumes nothing.
 use borrow.Author.Needs.{needs}
 use borrow.Author.Tests.{eq-eqb, ne-eqb}
-use mathlib.Core.Bool.{Bool, cond}
+use mathlib.Core.Bool.{false}
+use lib.Dec.{eqb}
 use mathlib.Core.Path.{_≡_, sym, ap, ap₂, _∙_}
 use Prim.Native.Nat.{ℕ, _+_, _^_, _%_, min}
 use lib.Ieee.{Float}
@@ -11,12 +12,14 @@ use Rattle.event.specs.declared.Source.{Source}
 use Rattle.event.specs.Events.{newEvent}
 use Rattle.refusals.specs.Refusals.{pushRefusal}
 use Rattle.sequencer.specs.declared.Sequencer.{Sequencer}
-use Rattle.sequencer.specs.declared.Outcome.{Outcome}
+use Rattle.sequencer.specs.declared.Entered.{Entered}
+use Rattle.sequencer.specs.declared.Pushed.{Pushed}
 use Rattle.sequencer.specs.declared.Answer.the-variants.{Number}
 use Rattle.sequencer.specs.Answers.{refuses}
 use Rattle.sequencer.specs.Parts.{withNext}
 use Rattle.sequencer.specs.Moves.{pushedEvent}
 use Rattle.sequencer.specs.Pushes.{pushesTo, admitted}
+use Rattle.sequencer.specs.Rises.{withRise, riseOf, riseTo}
 use Rattle.sequencer.proofs.Sequencer.push_to.Statement.{statement}
 use Rattle.sequencer.proofs.Sequencer.push_to.Tie as tie
 
@@ -27,25 +30,34 @@ module _ (s : Sequencer) (start end lasts from until : Float) (curve : Fade) (fa
   abbrev Told : Type 0
   Told = no ≡ pushRefusal start end lasts fade-in fade-out source gain n (s .next)
 
-  abbrev outcome : Sequencer → (next : ℕ) → Outcome
-  outcome t next = record { sequencer = withNext t next; answer = Number (record { 0 = s .next }) }
+  -- what is returned, by the engine that the event has entered, its rise and the next number
+  abbrev given : (t : Entered) (next : ℕ) → Pushed
+  given t next = record { sequencer = withNext (t .sequencer) next; answer = Number (record { 0 = s .next }); rise = t .rise }
 
-  accepted : Held → Told → no ≡ 0 → (e : Event) (t : Sequencer) (next : ℕ) → e ≡ newEvent from until fade-in fade-out curve source gain (s .next) → next ≡ (s .next + 1) % 2 ^ 64
-      → t ≡ pushedEvent s e → outcome t next ≡ pushesTo s start end lasts from until curve fade-in fade-out source gain
-  unfolding pushesTo admitted
+  abbrev told : Pushed
+  told = withRise (pushesTo s start end lasts from until curve fade-in fade-out source gain) (riseTo s start end lasts from until curve fade-in fade-out source gain)
+
+  refusal-is : Held → Told → no ≡ pushRefusal start end lasts fade-in fade-out source gain (min (s .«ready_len» + (s .«active_len» + s .«past_len»)) 256) (s .next)
+  refusal-is h q = q ∙ ap (λ (m : ℕ). pushRefusal start end lasts fade-in fade-out source gain m (s .next)) h
+
+  refused : Held → Told → eqb no 0 ≡ false → withRise (refuses s no) 0 ≡ told
+  unfolding pushesTo riseTo
+  refused h q z = rw (← refusal-is h q, z)
+
+  accepted : Held → Told → no ≡ 0 → (e : Event) (t : Entered) (next : ℕ) → e ≡ newEvent from until fade-in fade-out curve source gain (s .next) → next ≡ (s .next + 1) % 2 ^ 64
+      → t ≡ record { sequencer = pushedEvent s e; rise = riseOf s e } → given t next ≡ told
+  unfolding pushesTo admitted riseTo
   accepted h q z e t next he hn ht =
-      let k : pushRefusal start end lasts fade-in fade-out source gain (min (s .«ready_len» + (s .«active_len» + s .«past_len»)) 256) (s .next) ≡ 0
-      = ap (λ (m : ℕ). pushRefusal start end lasts fade-in fade-out source gain m (s .next)) (sym h) ∙ sym q ∙ z in
-      rw (eq-eqb _ 0 k) (ap₂ outcome (ht ∙ ap (pushedEvent s) he) hn)
+      rw (eq-eqb _ 0 (sym (refusal-is h q) ∙ z))
+      (ap₂ given (ht ∙ ap (λ (e : Event). record { sequencer = pushedEvent s e; rise = riseOf s e }) he) hn)
 
 returns : tie.Need-returns
-unfolding pushesTo
-returns c = rw (← c .before .before .held .ensures, ← c .before .push-refusal .ensures, ne-eqb _ _ (c .if1 .taken))
+returns c = refused _ _ _ _ _ _ _ _ _ _ _ _ _ (c .before .before .held .ensures) (c .before .push-refusal .ensures) (ne-eqb _ _ (c .if1 .taken))
 
 returns-2 : tie.Need-returns-2
 returns-2 c =
-    accepted _ _ _ _ _ _ _ _ _ _ _ _ _ (c .before .before .before .before .before .held .ensures) (c .before .before .before .before .push-refusal .ensures) (c .before .before .before .if1 .left)
-    _ _ _ (c .before .new .ensures) (c .before .before .wrapping-add-u64 .ensures) (c .push-event .ensures)
+    accepted _ _ _ _ _ _ _ _ _ _ _ _ _ (c .before .before .before .before .before .before .held .ensures) (c .before .before .before .before .before .push-refusal .ensures) (c .before .before .before .before .if1 .left)
+    _ _ _ (c .before .before .new .ensures) (c .before .before .before .wrapping-add-u64 .ensures) (c .before .enter .ensures)
 
 pub push-to-spec : {M : Type 1} → statement M
 push-to-spec = tie.close (tie.spec (λ c κs. search needs) (λ c κs. search needs) returns (λ c κs. search needs) (λ c κs. search needs) (λ c κs. search needs) returns-2)

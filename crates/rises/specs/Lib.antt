@@ -1,0 +1,11 @@
+pub mod Way
+pub mod Totals
+pub mod Single
+pub mod Bounded
+pub mod Reached
+pub mod Wholes
+pub mod Arrangement
+pub mod Attained
+pub mod Words
+pub mod Tapes
+pub mod Cases
