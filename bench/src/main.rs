@@ -12,6 +12,7 @@ mod refusal;
 #[allow(dead_code)]
 mod tape;
 
+mod batch;
 mod clips;
 mod clock;
 mod port;
@@ -422,6 +423,7 @@ fn main() {
         }
     }
     clips::table();
+    batch::table();
     head("events that come in, 1 ch, ns an event");
     for n in [16, 256] {
         starts(n, &pool);

@@ -169,3 +169,24 @@ fn next(tape: &[u8], first: bool) -> Option<(Call, usize)> {
     }
     tape::read(Format::Tape, tape, first).ok()
 }
+
+/// `rounds` times the pushes of a run of records, one after another, on an empty engine of one channel, which a reset empties
+/// again: the nanoseconds and the numbers of the last round.
+pub fn push_run(rounds: u64, records: &[u8], numbers: &mut [u64]) -> u64 {
+    let mut engine = Engine::new(1, Mode::None, 1);
+    let start = crate::bench_now();
+    for _ in 0..rounds {
+        let mut rest = std::hint::black_box(records);
+        for number in numbers.iter_mut() {
+            let Some((Call::Push(kind, push, _), length)) = next(rest, false) else {
+                unreachable!("the records are pushes")
+            };
+            rest = &rest[length..];
+            *number = engine.next;
+            engine.push(kind, &push);
+        }
+        engine.sequencer.reset();
+        engine.next = 1;
+    }
+    crate::bench_now() - start
+}

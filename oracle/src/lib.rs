@@ -1,6 +1,7 @@
 //! The fundsp 0.23.0 sequencer as the judge of its port. README.md says what is where.
 
 pub mod agree;
+pub mod batch;
 mod beside;
 pub mod call;
 pub mod compare;

@@ -82,7 +82,7 @@ pub fn is_push(kind: u8) -> bool
 }
 
 // Whether a push's curve or source byte is unknown.
-fn is_unknown_push(bs: &[u8]) -> bool
+pub fn is_unknown_push(bs: &[u8]) -> bool
     ensures { λ r. ⌜ r ≡ unknownPush (now (bs .entry)) ⌝ }
 {
     if 1 < fields::byte(bs, 33) {
@@ -163,7 +163,7 @@ fn gain_of(bs: &[u8]) -> f32
     1.0
 }
 
-fn push_of(bs: &[u8]) -> PushRecord
+pub fn push_of(bs: &[u8]) -> PushRecord
     ensures { λ r. ⌜ r ≡ pushOf (now (bs .entry)) ⌝ }
 {
     let start_time = fields::f64_at(bs, 1);

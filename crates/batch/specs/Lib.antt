@@ -1,0 +1,5 @@
+pub mod Records
+pub mod Run
+pub mod Contract
+pub mod Rounds
+pub mod Cases

@@ -1,0 +1,4 @@
+pub mod Singles
+pub mod Lists
+pub mod Theorem
+pub mod Extent
