@@ -42,9 +42,10 @@ use Rattle.tape.specs.Pool.{trailPool}
 use Rattle.apply.specs.declared.Applied.{Applied}
 use Rattle.apply.specs.Applying as Engine
 use Rattle.apply.specs.Applying.{appliedTo, appliedOut, silentOf, soundingOf, lentTick, lentBlock, ticking, tickingOut, processing, processingOut}
-use Rattle.render.specs.Playing.{Played, refusalOf, silent, channelsOf, heard, pushCall, editCall, play}
-pub use Rattle.render.proofs.Heard.{length-channels}
-use Rattle.render.proofs.Heard.{step-channels, create-few, channels-front, length-overlay, accepted-size, plays-tick, plays-block}
+use Rattle.render.specs.Playing.{Played, refusalOf, silent, heard, pushCall, editCall, play}
+use Rattle.plans.specs.Sounding.{length-overlay}
+use Rattle.player.specs.Bytes.{channelsOf}
+use Rattle.render.proofs.Heard.{step-channels, create-few, channels-front, accepted-size, plays-tick, plays-block}
 
 pub record Follows (s : Sequencer) (l : Ledger) : Type 0 where
   pub related : Related s l

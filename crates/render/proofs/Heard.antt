@@ -25,7 +25,9 @@ use Rattle.ledger.specs.Steps.{Outcome, step, decide, accept, enter, change, ad
 use Rattle.claim.specs.SamplesAgree.{block-channel, length-channel}
 use Rattle.tape.specs.declared.reader.Call.the-variants.{Tick, Process}
 use Rattle.tape.specs.Pool.{trailPool}
-use Rattle.render.specs.Playing.{refusalOf, channelsOf, heard, play}
+use Rattle.plans.specs.Sounding.{length-row}
+use Rattle.player.specs.Bytes.{channelsOf}
+use Rattle.render.specs.Playing.{refusalOf, heard, play}
 
 -- ---- channels
 
@@ -78,17 +80,6 @@ create-few channels mode first = go (leb 1 channels) (leb channels 8) refl (leb 
 
 -- ---- the samples of every channel
 
-pub length-channels : (c n w : ℕ) (out : List Float) → n ≤ w → c * w ≤ length out → length (channelsOf c n w out) ≡ c * n
-unfolding channelsOf
-length-channels zero n w out p q = omega arith
-length-channels (suc c) n w out p q =
-    omega (
-      arith,
-      length-append (take n out) (channelsOf c n w (drop w out)),
-      length-take-le n out (omega arith),
-      length-channels c n w (drop w out) p (omega (arith, length-drop w out)),
-    )
-
 -- what stands behind the channels is not heard
 pub channels-front : (c n w : ℕ) (out rest : List Float) → n ≤ w → c * w ≤ length out → channelsOf c n w (out ++ rest) ≡ channelsOf c n w out
 unfolding channelsOf
@@ -100,20 +91,6 @@ channels-front (suc c) n w out rest p q =
 -- ---- channels written over
 
 module _ (run : List Float) (short : length run ≤ 64) where
-  -- a channel's first places are the run, and its places remain 64
-  row : (lent : List Float) → 64 ≤ length lent → length (run ++ drop (length run) (take 64 lent)) ≡ 64
-  row lent h =
-      omega (arith, length-append run (drop (length run) (take 64 lent)), length-drop (length run) (take 64 lent), length-take-le 64 lent h)
-
-  pub length-overlay : (c : ℕ) (lent : List Float) → 64 * c ≤ length lent → length (overlay c run lent) ≡ length lent
-  unfolding overlay
-  length-overlay zero lent h = refl
-  length-overlay (suc c) lent h =
-      let rest : List Float = overlay c run (drop 64 lent) in
-      let k : length (overlay c run (drop 64 lent)) ≡ length (drop 64 lent) = length-overlay c (drop 64 lent) (omega (arith, length-drop 64 lent)) in
-      ap length (sym (append-assoc run (drop (length run) (take 64 lent)) rest))
-      ∙ omega (arith, length-append (run ++ drop (length run) (take 64 lent)) rest, row lent (omega arith), k, length-drop 64 lent)
-
   -- the run is heard once for each channel, whatever stood in the lent output
   pub heard-overlay : (c n : ℕ) (lent : List Float) → n ≤ length run → 64 * c ≤ length lent → channelsOf c n 64 (overlay c run lent) ≡ channelsOf c n 0 run
   unfolding overlay channelsOf
@@ -122,7 +99,7 @@ module _ (run : List Float) (short : length run ≤ 64) where
       let kept : List Float = drop (length run) (take 64 lent) in
       let rest : List Float = overlay c run (drop 64 lent) in
       ap₂ (λ (a b : List Float). a ++ b) (take-append-le n run (kept ++ rest) p)
-      (ap (channelsOf c n 64) (ap (drop 64) (sym (append-assoc run kept rest)) ∙ drop-at (run ++ kept) rest 64 (row lent (omega arith)))
+      (ap (channelsOf c n 64) (ap (drop 64) (sym (append-assoc run kept rest)) ∙ drop-at (run ++ kept) rest 64 (length-row run short lent (omega arith)))
       ∙ heard-overlay c n (drop 64 lent) p (omega (arith, length-drop 64 lent)))
 
 -- ---- a tick, and a block that is lent no scratch: what is heard depends on the length of the output lent, and on nothing that stands in it

@@ -1,4 +1,3 @@
-pub mod Steps
 pub mod Heard
 pub mod Follows
 pub mod Rolling

@@ -1,4 +1,3 @@
-pub mod Bytes
 pub mod Playing
 pub mod Rendering
 pub mod Example

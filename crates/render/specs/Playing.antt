@@ -1,11 +1,11 @@
 -- A tape's records on the plain ledger: what each does to it, and which samples are heard. No engine stands here. Assumes nothing.
-use Prim.Native.Nat.{ℕ, zero, suc, _*_}
+use Prim.Native.Nat.{ℕ, _*_}
 use mathlib.Core.Bool.{cond}
-use mathlib.Core.List.{List, [], _++_}
+use mathlib.Core.List.{List, []}
 use mathlib.Core.Option.{none}
 use lib.Dec.{eqb}
 use lib.Ieee.{Float}
-use lib.ListN.{take, drop, replicate}
+use lib.ListN.{replicate}
 use Rattle.event.specs.declared.MixOrder.the-variants.{Forward}
 use Rattle.floats.specs.Arithmetic.{zeroᶠ}
 use Rattle.ledger.specs.Calls.{PushKind, absolute, relative, byDuration, EditKind, absoluteEnd, relativeEnd, push, edit, tick, block, rate, reset, Answer, number, applied, past, stored, done, rendered, refused}
@@ -17,6 +17,7 @@ use Rattle.tape.specs.declared.reader.Call.the-variants.{Create, Push, PushRela
 use Rattle.tape.specs.declared.reader.PushRecord.{PushRecord}
 use Rattle.tape.specs.declared.reader.EditRecord.{EditRecord}
 use Rattle.tape.specs.Pool.{trailPool}
+use Rattle.player.specs.Bytes.{channelsOf}
 
 -- the ledger after a record, the refusal or 0, and the samples of an accepted tick or block, channel after channel
 pub record Played : Type 0 where
@@ -36,11 +37,6 @@ refusalOf (rendered c) = 0
 -- a record without samples
 abbrev pub silent : Outcome → Played
 silent o = record { ledger = o .ledger; refusal = refusalOf (o .reply .answer); samples = [] }
-
--- the first n samples of each of c channels; the channels begin w places apart
-unfoldable pub channelsOf : (c n w : ℕ) → List Float → List Float
-channelsOf zero n w out = []
-channelsOf (suc c) n w out = take n out ++ channelsOf c n w (drop w out)
 
 unfoldable pub heard : (c n w : ℕ) → Outcome → Played
 unfolding channelsOf

@@ -10,7 +10,7 @@ use Rattle.tape.specs.declared.reader.Cursor.{Cursor}
 use Rattle.tape.specs.declared.reader.Read.{Read}
 use Rattle.tape.specs.declared.reader.Read.the-variants.{Record, Refused, End}
 use Rattle.tape.specs.Tape.{readAt}
-use Rattle.render.specs.Bytes.{bytesOf}
+use Rattle.player.specs.Bytes.{bytesOf}
 use Rattle.render.specs.Playing.{Played, play}
 
 -- the rest of a rendering: from a ledger and a cursor on, with so much room left

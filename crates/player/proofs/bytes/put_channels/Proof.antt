@@ -1,10 +1,10 @@
--- `render::bytes::put_channels` meets its contract. Assumes nothing.
+-- `player::bytes::put_channels` meets its contract. Assumes nothing.
 use borrow.Author.Needs.{needs}
 use native.Mathlib.Omega.{arith}
 use Rattle.listing.specs.Putting.{same-long}
-use Rattle.render.proofs.Steps.{Channels, start, next-given, next-fits, next-long, turn, finish}
-use Rattle.render.proofs.bytes.put_channels.Statement.{statement}
-use Rattle.render.proofs.bytes.put_channels.Tie as tie
+use Rattle.player.proofs.Puts.{Channels, start, next-given, next-fits, next-long, turn, finish}
+use Rattle.player.proofs.bytes.put_channels.Statement.{statement}
+use Rattle.player.proofs.bytes.put_channels.Tie as tie
 
 abbrev Inv-loop : tie.InvT-loop
 Inv-loop samples channels each stride out₀ at from₀ to₀ left₀ out from to left = Channels samples channels each stride out₀ at out from to left

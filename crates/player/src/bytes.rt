@@ -3,8 +3,7 @@ ghost use mathlib.Core.Path.{_≡_};
 ghost use Prim.Native.Nat.{_+_, _*_, _≤_};
 ghost use lib.ListN.{length};
 ghost use lib.Seq.{sets};
-ghost use Rattle.render.specs.Bytes.{littleEndian, bytesOf};
-ghost use Rattle.render.specs.Playing.{channelsOf};
+ghost use Rattle.player.specs.Bytes.{littleEndian, bytesOf, channelsOf};
 
 // The low `width` bytes of n, the lowest first.
 fn put_word(n: u64, width: usize, out: &mut [u8], at: usize)

@@ -1,4 +1,4 @@
--- `render::bytes::put_word` meets its contract. Assumes nothing.
+-- `player::bytes::put_word` meets its contract. Assumes nothing.
 use borrow.Author.Needs.{needs}
 use mathlib.Core.Path.{_≡_, refl, ap}
 use mathlib.Core.List.{[], _∷_}
@@ -6,10 +6,10 @@ use Prim.Native.Nat.{ℕ, _+_, _-_, _/_, _%_, _≤_}
 use native.Mathlib.Omega.{arith}
 use lib.ListN.{length}
 use Rattle.listing.specs.Putting.{Putting, begin, further, ended, same-long, left-is}
-use Rattle.render.specs.Bytes.{littleEndian}
-use Rattle.render.proofs.Steps.{little-step}
-use Rattle.render.proofs.bytes.put_word.Statement.{statement}
-use Rattle.render.proofs.bytes.put_word.Tie as tie
+use Rattle.player.specs.Bytes.{littleEndian}
+use Rattle.player.proofs.Puts.{little-step}
+use Rattle.player.proofs.bytes.put_word.Statement.{statement}
+use Rattle.player.proofs.bytes.put_word.Tie as tie
 
 abbrev Inv-loop : tie.InvT-loop
 Inv-loop n width out₀ at rest₀ to₀ left₀ out rest to left = Putting out₀ at (littleEndian width n) out (littleEndian left rest) to × (to + left ≤ length out₀)

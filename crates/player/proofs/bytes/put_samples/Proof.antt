@@ -1,4 +1,4 @@
--- `render::bytes::put_samples` meets its contract: the samples are put piece by piece. Assumes nothing.
+-- `player::bytes::put_samples` meets its contract: the samples are put piece by piece. Assumes nothing.
 use borrow.Author.Needs.{needs}
 use mathlib.Core.Path.{_≡_, refl, sym, ap, _∙_}
 use mathlib.Core.List.{_++_}
@@ -7,10 +7,10 @@ use native.Mathlib.Omega.{arith}
 use lib.Ieee.{nan}
 use lib.ListN.{length, drop}
 use Rattle.listing.specs.Putting.{Pieces, first-piece, piece-fits, next-piece, last-piece, same-long}
-use Rattle.render.specs.Bytes.{littleEndian, bytesOf, length-little, length-bytes}
-use Rattle.render.proofs.Steps.{bytes-step}
-use Rattle.render.proofs.bytes.put_samples.Statement.{statement}
-use Rattle.render.proofs.bytes.put_samples.Tie as tie
+use Rattle.player.specs.Bytes.{littleEndian, bytesOf, length-little, length-bytes}
+use Rattle.player.proofs.Puts.{bytes-step}
+use Rattle.player.proofs.bytes.put_samples.Statement.{statement}
+use Rattle.player.proofs.bytes.put_samples.Tie as tie
 
 abbrev Inv-loop : tie.InvT-loop
 Inv-loop samples out₀ at to₀ i₀ out to i = Pieces bytesOf samples out₀ at out to i

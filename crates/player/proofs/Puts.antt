@@ -9,8 +9,7 @@ use lib.Ieee.{Float, binary32, toBits}
 use lib.ListN.{length, getD, take, drop, length-drop}
 use lib.Seq.{sets, drop-cons, drop-drop, length-take-le}
 use Rattle.listing.specs.Putting.{Putting, begin, further, ended, left-is, place-is}
-use Rattle.render.specs.Bytes.{littleEndian, bytesOf, length-bytes, bytes-append}
-use Rattle.render.specs.Playing.{channelsOf}
+use Rattle.player.specs.Bytes.{littleEndian, bytesOf, length-bytes, bytes-append, channelsOf}
 
 pub little-step : (k n : ℕ) → 0 < k → littleEndian k n ≡ (n % 256 ∷ []) ++ littleEndian (k - 1) (n / 256)
 unfolding littleEndian

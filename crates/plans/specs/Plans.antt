@@ -1,0 +1,117 @@
+-- What a record asks for, decided before the engine is touched. Assumes nothing.
+use mathlib.Core.Bool.{Bool, true, false, _&&_, cond}
+use Prim.Native.Nat.{ℕ, _+_, _*_, _^_, _%_, min}
+use lib.Dec.{ltb, leb, eqb}
+use lib.Ieee.{Float}
+use Rattle.event.specs.declared.Event.{Event}
+use Rattle.event.specs.declared.ReplayMode.{ReplayMode}
+use Rattle.event.specs.declared.ReplayMode.the-variants.{All, None}
+use Rattle.event.specs.Events.{newEvent, earlier, editedBy}
+use Rattle.floats.specs.Arithmetic.{_+ᵈ_, _-ᵈ_, _×ᵈ_, _<ᶠ_, halfᶠ, whole}
+use Rattle.lists.specs.declared.EditMap.{EditMap}
+use Rattle.lists.specs.declared.FoundEdit.{FoundEdit}
+use Rattle.lists.specs.declared.FoundEdit.the-variants.{Stored, Missing}
+use Rattle.lists.specs.Edits.{foundEdit, removed}
+use Rattle.refusals.specs.Refusals.{pushRefusal, tickRefusal, processRefusal}
+use Rattle.tape.specs.declared.reader.PushRecord.{PushRecord}
+use Rattle.tape.specs.declared.reader.Call.{Call}
+use Rattle.tape.specs.declared.reader.Call.the-variants as Call
+use Rattle.plans.specs.declared.Clock.{Clock}
+use Rattle.plans.specs.declared.Step.{Step}
+use Rattle.plans.specs.declared.Taken.{Taken}
+use Rattle.plans.specs.declared.Plan.{Plan}
+use Rattle.plans.specs.declared.Plan.the-variants.{Refuse, Sound, Wait, Render, Full, Other}
+
+-- ---- a push
+
+-- "A push whose start is before the threshold goes straight to the sounding list": it lasts from `from` to `until`
+abbrev pub entersBy : Event → (threshold : Float) → Plan
+entersBy e θ = cond (e .«start_time» <ᶠ θ) (Sound e) (Wait e)
+
+unfoldable pub pushPlan : PushRecord → (lasts from until : Float) → Clock → Plan
+pushPlan p lasts from until c =
+    let no = pushRefusal (p .«start_time») (p .«end_time») lasts (p .«fade_in») (p .«fade_out») (p .source) (p .gain) (c .held) (c .next) in
+    cond (eqb no 0) (entersBy (newEvent from until (p .«fade_in») (p .«fade_out») (p .«fade_ease») (p .source) (p .gain) (c .next)) (c .threshold)) (Refuse no)
+
+-- ---- a tick or block
+
+-- in mode None the finished are let go
+abbrev pub releasesIn : ReplayMode → Bool
+releasesIn All = false
+releasesIn None = true
+
+abbrev pub stepOf : (tick : Bool) → (size channels stride : ℕ) → (end : Float) → Clock → Step
+stepOf tick n k w end c = record {
+  tick = tick;
+  releases = releasesIn (c .mode);
+  size = n;
+  channels = k;
+  stride = w;
+  time = c .time;
+  end = end;
+  limit = c .time +ᵈ halfᶠ ×ᵈ c .duration;
+  threshold = end -ᵈ c .duration ×ᵈ halfᶠ;
+  rate = c .rate;
+  duration = c .duration;
+}
+
+-- four bytes a sample: those that do not fit in the room are not rendered
+unfoldable pub stepPlan : (room : ℕ) → Step → Plan
+stepPlan room b = cond (ltb room (4 * (b .channels * b .size))) Full (Render b)
+
+unfoldable pub tickPlan : Clock → (room : ℕ) → Plan
+unfolding stepPlan
+tickPlan c room =
+    let k = min (c .outputs) 8 in
+    let no = tickRefusal k (c .outputs) (c .time) (c .duration) in
+    cond (eqb no 0) (stepPlan room (stepOf true 1 k 1 (c .time +ᵈ c .duration) c)) (Refuse no)
+
+unfoldable pub blockPlan : (size : ℕ) → Clock → (room : ℕ) → Plan
+unfolding stepPlan
+blockPlan n c room =
+    let k = min (c .outputs) 8 in
+    let no = processRefusal n (64 * k) (c .outputs) (c .time) (c .duration) in
+    cond (eqb no 0) (stepPlan room (stepOf false n k 64 (c .time +ᵈ c .duration ×ᵈ whole n) c)) (Refuse no)
+
+-- ---- a record
+
+unfoldable pub planOf : Call → Clock → (room : ℕ) → Plan
+unfolding pushPlan tickPlan blockPlan
+planOf (Call.Push p) c room = pushPlan p (p .«end_time» -ᵈ p .«start_time») (p .«start_time») (p .«end_time») c
+planOf (Call.PushRelative p) c room = pushPlan p (p .«end_time» -ᵈ p .«start_time») (p .«start_time» +ᵈ c .time) (p .«end_time» +ᵈ c .time) c
+planOf (Call.PushDuration p) c room = pushPlan p (p .«start_time» +ᵈ p .«end_time» -ᵈ p .«start_time») (p .«start_time») (p .«start_time» +ᵈ p .«end_time») c
+planOf Call.Tick c room = tickPlan c room
+planOf (Call.Process n) c room = blockPlan n c room
+planOf (Call.Create k m n) c room = Other
+planOf (Call.Edit p) c room = Other
+planOf (Call.EditRelative p) c room = Other
+planOf Call.Reset c room = Other
+planOf (Call.SetSampleRate r) c room = Other
+
+-- ---- the beginning of a tick or block
+
+abbrev pub letGoAfter : (releases : Bool) → (let-go past : ℕ) → ℕ
+letGoAfter b n past = cond b ((n + past) % 2 ^ 64) n
+
+abbrev pub pastAfter : (releases : Bool) → (past : ℕ) → ℕ
+pastAfter b past = cond b 0 past
+
+-- a corrupt count starts nothing
+abbrev pub startsBefore : (waiting : ℕ) → (start threshold : Float) → Bool
+startsBefore n start θ = ltb 0 n && leb n 256 && start <ᶠ θ
+
+-- an event with its edit, which is no longer stored
+abbrev pub takenBy : EditMap → Event → FoundEdit → Taken
+takenBy m e (Stored d) = record { event = editedBy d e; edits = removed m (e .id) }
+takenBy m e Missing = record { event = e; edits = m }
+
+abbrev pub takenFrom : EditMap → Event → Taken
+takenFrom m e = takenBy m e (foundEdit m (e .id))
+
+-- of the children at c and c + 1 the one that leaves the heap first; of one child, it
+abbrev pub lesserChild : (c n : ℕ) → (left right : Event) → ℕ
+lesserChild c n left right = cond (ltb (c + 1) n && earlier right left) (c + 1) c
+
+-- a corrupt count holds nothing
+abbrev pub isWithin : (i n : ℕ) → Bool
+isWithin i n = ltb i n && leb n 256

@@ -1,0 +1,327 @@
+// What a record asks for, decided on small values: no function here takes the engine.
+ghost use mathlib.Core.Path.{_≡_};
+ghost use Prim.Native.Nat.{_≤_};
+ghost use lib.ListN.{getD, set};
+ghost use Rattle.floats.specs.Arithmetic.{_+ˢ_, zeroᶠ};
+ghost use Rattle.plans.specs.Plans.{pushPlan, releasesIn, stepOf, stepPlan, tickPlan, blockPlan, planOf, letGoAfter, pastAfter, startsBefore, takenFrom, lesserChild, isWithin};
+ghost use Rattle.plans.specs.Sounding.{soundedEvent, soundedRow, writtenTo};
+use event::Event;
+use event::EventId;
+use event::Placings;
+use event::ReplayMode;
+use lists::EditMap;
+use lists::FoundEdit;
+use mixing::Span;
+use refusals::process_refusal;
+use refusals::push_refusal;
+use refusals::tick_refusal;
+use runs::least;
+use tape::reader::Call;
+use tape::reader::PushRecord;
+
+// What a plan needs of an engine: its times, channels and mode, how many events it holds (at most 256), and the next number.
+pub struct Clock {
+    pub time: f64,
+    pub threshold: f64,
+    pub rate: f64,
+    pub duration: f64,
+    pub outputs: usize,
+    pub mode: ReplayMode,
+    pub held: usize,
+    pub next: u64,
+}
+
+// A tick or block that is not refused: its size, channels and their stride, the clock at its beginning and end, the limit by which an event has ended and the threshold before which one starts.
+pub struct Step {
+    pub tick: bool,
+    pub releases: bool,
+    pub size: usize,
+    pub channels: usize,
+    pub stride: usize,
+    pub time: f64,
+    pub end: f64,
+    pub limit: f64,
+    pub threshold: f64,
+    pub rate: f64,
+    pub duration: f64,
+}
+
+// A call that is refused, with its number; a push to the sounding list; a push to the heap; a tick or block; one whose samples do not fit; any other call, which takes the engine by value.
+pub enum Plan {
+    Refuse(u64),
+    Sound(Event),
+    Wait(Event),
+    Render(Step),
+    Full,
+    Other,
+}
+
+// A push, as given from its start to its end (or for that duration), which `lasts` so long; the event is to last from `from` to `until`.
+fn push_plan(p: PushRecord, lasts: f64, from: f64, until: f64, clock: Clock) -> Plan
+    ensures { λ r. ⌜ r ≡ pushPlan p lasts from until clock ⌝ }
+{
+    let source = p.source;
+    let no = push_refusal(
+        p.start_time,
+        p.end_time,
+        lasts,
+        p.fade_in,
+        p.fade_out,
+        source,
+        p.gain,
+        clock.held,
+        clock.next,
+    );
+    if no != 0 {
+        return Plan::Refuse(no);
+    }
+    let ease = p.fade_ease;
+    let id = EventId(clock.next);
+    let event = Event::new(from, until, p.fade_in, p.fade_out, ease, source, p.gain, id);
+    if from < clock.threshold {
+        return Plan::Sound(event);
+    }
+    Plan::Wait(event)
+}
+
+fn releases(mode: ReplayMode) -> bool
+    ensures { λ r. ⌜ r ≡ releasesIn mode ⌝ }
+{
+    match mode {
+        ReplayMode::All => false,
+        ReplayMode::None => true,
+    }
+}
+
+fn step_plan(
+    tick: bool,
+    size: usize,
+    channels: usize,
+    stride: usize,
+    end: f64,
+    clock: Clock,
+    room: usize,
+) -> Plan
+    requires { ⌜ (channels ≤ 8) × (size ≤ 255) ⌝ }
+    ensures { λ r. ⌜ r ≡ stepPlan room (stepOf tick size channels stride end clock) ⌝ }
+{
+    if room < 4 * (channels * size) {
+        return Plan::Full;
+    }
+    let mode = clock.mode;
+    Plan::Render(Step {
+        tick,
+        releases: releases(mode),
+        size,
+        channels,
+        stride,
+        time: clock.time,
+        end,
+        limit: clock.time + 0.5 * clock.duration,
+        threshold: end - clock.duration * 0.5,
+        rate: clock.rate,
+        duration: clock.duration,
+    })
+}
+
+fn tick_plan(clock: Clock, room: usize) -> Plan
+    ensures { λ r. ⌜ r ≡ tickPlan clock room ⌝ }
+{
+    let channels = least(clock.outputs, 8);
+    let no = tick_refusal(channels, clock.outputs, clock.time, clock.duration);
+    if no != 0 {
+        return Plan::Refuse(no);
+    }
+    step_plan(
+        true,
+        1,
+        channels,
+        1,
+        clock.time + clock.duration,
+        clock,
+        room,
+    )
+}
+
+fn block_plan(size: usize, clock: Clock, room: usize) -> Plan
+    requires { ⌜ size ≤ 255 ⌝ }
+    ensures { λ r. ⌜ r ≡ blockPlan size clock room ⌝ }
+{
+    let channels = least(clock.outputs, 8);
+    let no = process_refusal(
+        size,
+        64 * channels,
+        clock.outputs,
+        clock.time,
+        clock.duration,
+    );
+    if no != 0 {
+        return Plan::Refuse(no);
+    }
+    let end = clock.time + clock.duration * std::num::nearest_u64_to_f64(size as u64);
+    step_plan(false, size, channels, 64, end, clock, room)
+}
+
+// `room` is how many bytes of the output are free.
+pub fn plan_of(call: Call, clock: Clock, room: usize) -> Plan
+    ensures { λ r. ⌜ r ≡ planOf call clock room ⌝ }
+{
+    match call {
+        Call::Push(p) => push_plan(
+            p,
+            p.end_time - p.start_time,
+            p.start_time,
+            p.end_time,
+            clock,
+        ),
+        Call::PushRelative(p) => push_plan(
+            p,
+            p.end_time - p.start_time,
+            p.start_time + clock.time,
+            p.end_time + clock.time,
+            clock,
+        ),
+        Call::PushDuration(p) => {
+            let end = p.start_time + p.end_time;
+            push_plan(p, end - p.start_time, p.start_time, end, clock)
+        }
+        Call::Tick => tick_plan(clock, room),
+        Call::Process(n) => block_plan(n as usize, clock, room),
+        Call::Create {
+            channels: _,
+            mode: _,
+            first: _,
+        } => Plan::Other,
+        Call::Edit(_) => Plan::Other,
+        Call::EditRelative(_) => Plan::Other,
+        Call::Reset => Plan::Other,
+        Call::SetSampleRate(_) => Plan::Other,
+    }
+}
+
+// ---- the beginning of a tick or block
+
+pub fn gone(releases: bool, let_go: u64, past: usize) -> u64
+    ensures { λ r. ⌜ r ≡ letGoAfter releases «let_go» past ⌝ }
+{
+    if releases {
+        std::num::wrapping_add_u64(let_go, past as u64)
+    } else {
+        let_go
+    }
+}
+
+pub fn kept(releases: bool, past: usize) -> usize
+    ensures { λ r. ⌜ r ≡ pastAfter releases past ⌝ }
+{
+    if releases { 0 } else { past }
+}
+
+// Whether the heap's first starts before the threshold; a corrupt count starts nothing.
+pub fn starts(waiting: usize, start: f64, threshold: f64) -> bool
+    ensures { λ r. ⌜ r ≡ startsBefore waiting start threshold ⌝ }
+{
+    if waiting == 0 {
+        return false;
+    }
+    if 256 < waiting {
+        return false;
+    }
+    start < threshold
+}
+
+pub struct Taken {
+    pub event: Event,
+    pub edits: EditMap,
+}
+
+pub fn take_edit(edits: EditMap, event: Event) -> Taken
+    ensures { λ r. ⌜ r ≡ takenFrom edits event ⌝ }
+{
+    let id = event.id;
+    let found = edits.find(id);
+    match found {
+        FoundEdit::Stored(edit) => Taken {
+            event: event.edited(edit),
+            edits: edits.remove(id),
+        },
+        FoundEdit::Missing => Taken { event, edits },
+    }
+}
+
+// Of the children at c and c + 1 the one that precedes; of one child, it.
+pub fn lesser_child(c: usize, n: usize, left: Event, right: Event) -> usize
+    ensures { λ r. ⌜ r ≡ lesserChild c n left right ⌝ }
+{
+    if n <= c {
+        return c;
+    }
+    if c + 1 < n {
+        if right.precedes(left) {
+            return c + 1;
+        }
+    }
+    c
+}
+
+pub fn within(i: usize, n: usize) -> bool
+    ensures { λ r. ⌜ r ≡ isWithin i n ⌝ }
+{
+    if 256 < n {
+        return false;
+    }
+    i < n
+}
+
+// ---- samples
+
+fn first(row: &[f32]) -> f32
+    ensures { λ r. ⌜ r ≡ getD (now (row .entry)) 0 zeroᶠ ⌝ }
+{
+    if 0 < row.len() {
+        return row[0];
+    }
+    0.0
+}
+
+fn add_first(row: &mut [f32], x: f32)
+    ensures { λ _. ⌜ now (row .exit) ≡ set (now (row .entry)) 0 (getD (now (row .entry)) 0 zeroᶠ +ˢ x) ⌝ }
+{
+    if 0 < row.len() {
+        row[0] = row[0] + x;
+    }
+}
+
+// Adds an event's samples in a tick or block to the row; the event afterwards.
+pub fn sound(event: Event, step: Step, pool: &[f32], row: &mut [f32]) -> Event
+    ensures { λ r. ⌜ (r ≡ soundedEvent step event) × (now (row .exit) ≡ soundedRow (now (pool .entry)) step (now (row .entry)) event) ⌝ }
+{
+    if step.tick {
+        let x = mixing::tick_sample(event, step.time, pool);
+        add_first(row, x);
+        return mixing::after_tick(event);
+    }
+    let span = Span {
+        size: step.size,
+        clock: step.time,
+        upto: step.end,
+        rate: step.rate,
+        duration: step.duration,
+    };
+    let none = Placings::new();
+    let after = mixing::process_event(event, span, pool, row, none);
+    after.event
+}
+
+pub fn write(step: Step, row: &[f32], samples: &mut [f32])
+    ensures { λ _. ⌜ now (samples .exit) ≡ writtenTo step (now (row .entry)) (now (samples .entry)) ⌝ }
+{
+    if step.tick {
+        let n = least(step.channels, samples.len());
+        let x = first(row);
+        runs::set_all(&mut samples[..n], x);
+        return;
+    }
+    let n = least(64 * least(step.channels, 8), samples.len());
+    runs::overlay_channels(&mut samples[..n], row);
+}

@@ -1,0 +1,4 @@
+pub mod Puts
+pub mod Rolling
+pub mod Meaning
+pub mod Arms

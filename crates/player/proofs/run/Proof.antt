@@ -1,0 +1,541 @@
+use borrow.Author.Needs.{needs}
+use borrow.Author.Tests.{not-true, not-false}
+use borrow.Rule.Slice.PartMut.{same-len-mid}
+use mathlib.Core.Path.{_≡_, refl, sym, ap, _∙_, subst}
+use mathlib.Core.Bool.{true, false}
+use mathlib.Core.Logic.{⊎-elim}
+use mathlib.Core.List.{List, [], _∷_, _++_}
+use Prim.Native.Nat.{ℕ, zero, suc, _≤_, _<_, _-_, _+_, _*_, _%_, _^_}
+use native.Mathlib.Nat.{mul-le-mul, sub-zero}
+use native.Mathlib.Omega.{arith}
+use lib.Ieee.{Float, ofBits}
+use lib.ListN.{length, getD, set, take, drop, replicate}
+use lib.Seq.{length-take-le, take-at}
+use denote.Ref.{now}
+use denote.Enum.Declared.{tagOf}
+use types.Run.{OneOf}
+use Rattle.event.specs.declared.MixOrder.the-variants.{Forward}
+use Rattle.event.specs.Events.{blank}
+use Rattle.floats.specs.Arithmetic.{zeroᶠ, _<ᶠ_}
+use Rattle.listing.specs.Putting.{same-long}
+use Rattle.mixing.specs.Blocks.{clearedPlaces}
+use Rattle.sequencer.specs.declared.Sequencer.{Sequencer}
+use Rattle.sequencer.specs.Parts.{withReady, withTimes, withSounding}
+use Rattle.sequencer.specs.Moves.{poppedReady, readyToActive, activeToPast}
+use Rattle.sequencer.specs.Rounds.{RisingIn, rising-in, rising-in-on, risen-in-root, risen-in-stop, lastPlace, lastOf, SinkingIn, sinking-in, sinking-in-on, sunk-in-end, sunk-in-stop}
+use Rattle.sequencer.specs.Turns.{Activating, Taking, taking-none, taking-len, activating-room, activating-full, Finishing, finishing-on, finishing-room, finishing-full}
+use Rattle.sequencer.specs.Steady.{Passing, passing-start, passing-on, passing-end}
+use Rattle.tape.specs.declared.reader.Read.{Read}
+use Rattle.tape.specs.declared.reader.Read.the-variants.{Record, Refused, End}
+use Rattle.tape.proofs.reader.Read.{the-type}
+use Rattle.tape.specs.Tape.{readAt}
+use Rattle.apply.specs.declared.Applied.{Applied}
+use Rattle.apply.specs.Applying.{appliedTo, appliedOut}
+use Rattle.plans.specs.declared.Clock.{Clock}
+use Rattle.plans.specs.declared.Plan.{Plan}
+use Rattle.plans.specs.Plans.{planOf}
+use Rattle.plans.specs.Sounding.{soundedEvent, soundedRow, writtenTo}
+use Rattle.player.proofs.Rolling.{Rolling, isRecord, start, moves, ends-unread, ends-refused, ends-full, goes-on, goes-on-silent, sound-length}
+use Rattle.player.proofs.Meaning.{Means, Renders, means, advancedIn, passIn, renderedIn, rowIn, heardIn}
+use Rattle.player.proofs.Arms.{entered-active, entered-ready, starts-true, starts-false, taking-edit, child-is, child-between, within-true, within-false, begun, advanced-by}
+use Rattle.player.proofs.run.Statement.{statement}
+use Rattle.player.proofs.run.Tie as tie
+
+not-record : (r : Read) → OneOf (1 ∷ 2 ∷ []) (tagOf the-type r) → isRecord r ≡ false
+not-record (Record k call next) h = absurd (⊎-elim (λ z. omega arith) (λ z. omega arith) h)
+not-record (Refused k n) h = refl
+not-record End h = refl
+
+take-replicate : {A : Type 0} (k n : ℕ) (a : A) → k ≤ n → take k (replicate n a) ≡ replicate k a
+take-replicate zero n a h = refl
+take-replicate (suc k) zero a h = absurd (omega arith)
+take-replicate (suc k) (suc n) a h = ap (λ (r : List _). a ∷ r) (take-replicate k n a (omega arith))
+
+-- what a plan sees of an engine that holds h events
+abbrev clockWith : Sequencer → (h : ℕ) → Clock
+clockWith s h = record {
+  time = s .time;
+  threshold = s .«active_threshold»;
+  rate = s .«sample_rate»;
+  duration = s .«sample_duration»;
+  outputs = s .outputs;
+  mode = s .mode;
+  held = h;
+  next = s .next;
+}
+
+abbrev Inv-loop2 : tie.InvT-loop2
+Inv-loop2 tape pool samples out s₀ cursor at event n i₀ s i = (s₀ .«ready_len» < 256) × RisingIn s₀ event i s
+
+abbrev μ-loop2 : tie.MeasureT-loop2
+μ-loop2 tape pool samples out s₀ cursor at event n i₀ s i = i
+
+abbrev Inv-loop4 : tie.InvT-loop4
+Inv-loop4 tape pool samples out s₀ cursor at step id event m last i₀ s i = (m < 256) × SinkingIn s₀ i s
+
+abbrev μ-loop4 : tie.MeasureT-loop4
+μ-loop4 tape pool samples out s₀ cursor at step id event m last i₀ s i = m - i
+
+abbrev Inv-loop3 : tie.InvT-loop3
+Inv-loop3 tape pool samples out s₀ cursor at step s = Activating s (readyToActive s₀)
+
+abbrev μ-loop3 : tie.MeasureT-loop3
+μ-loop3 tape pool samples out s₀ cursor at step s = s .«ready_len»
+
+abbrev Inv-loop5 : tie.InvT-loop5
+Inv-loop5 tape pool samples out s₀ cursor at step i₀ s i = Finishing (step .limit) s i (activeToPast s₀ (step .limit))
+
+abbrev μ-loop5 : tie.MeasureT-loop5
+μ-loop5 tape pool samples out s₀ cursor at step i₀ s i = s .«active_len» - i
+
+abbrev Inv-loop6 : tie.InvT-loop6
+Inv-loop6 tape pool samples out s₀ cursor at step i m w mix₀ k₀ s mix k = Passing (soundedEvent step) (soundedRow pool step) (replicate (clearedPlaces (step .size)) zeroᶠ) Forward s₀ m k s (take w mix) × (length mix ≡ 64)
+
+abbrev μ-loop6 : tie.MeasureT-loop6
+μ-loop6 tape pool samples out s₀ cursor at step i m w mix₀ k₀ s mix k = m - k
+
+abbrev Inv-loop : tie.InvT-loop
+Inv-loop tape pool samples₀ out₀ s₀ cursor₀ at₀ samples out s cursor at = Rolling pool tape out₀ out samples₀ samples s cursor at
+
+abbrev μ-loop : tie.MeasureT-loop
+μ-loop tape pool samples₀ out₀ s₀ cursor₀ at₀ samples out s cursor at = length tape - cursor .at
+
+-- ---- the record that was read, and what its plan means
+
+reads : (c : tie.After-plan-of Inv-loop2 μ-loop2 Inv-loop4 μ-loop4 Inv-loop3 μ-loop3 Inv-loop5 μ-loop5 Inv-loop6 μ-loop6 Inv-loop μ-loop) → (let v = c .before .before .before .r .given .0 in readAt (c .before .before .before .before .before .before .before .before .before .before .before .before .args .tape .now) (c .before .before .before .before .before .before .loop .cursor) ≡ Record (v .0) (v .1 .0) (v .1 .1 .0))
+reads c = sym (c .before .before .before .before .before .read .ensures) ∙ c .before .before .before .r .given .1
+
+abbrev Called : (c : tie.After-plan-of Inv-loop2 μ-loop2 Inv-loop4 μ-loop4 Inv-loop3 μ-loop3 Inv-loop5 μ-loop5 Inv-loop6 μ-loop6 Inv-loop μ-loop) → Plan → Type 0
+Called c p =
+    let l = c .before .before .before .before .before .before .loop in
+    let a = c .before .before .before .before .before .before .before .before .before .before .before .before .args in
+    let call = c .before .before .before .r .given .0 .1 .0 in
+    Means (a .pool .now) (l .s) (appliedTo (a .pool .now) (l .s) call (l .samples)) (l .samples) (appliedOut (a .pool .now) (l .s) call (l .samples)) (length (a .out .now) - l .at) p
+
+meant : (c : tie.After-plan-of Inv-loop2 μ-loop2 Inv-loop4 μ-loop4 Inv-loop3 μ-loop3 Inv-loop5 μ-loop5 Inv-loop6 μ-loop6 Inv-loop μ-loop) → Called c (c .plan-of .result)
+meant c =
+    let l = c .before .before .before .before .before .before .loop in
+    let a = c .before .before .before .before .before .before .before .before .before .before .before .before .args in
+    let call = c .before .before .before .r .given .0 .1 .0 in
+    let long = same-long (l .inv .put) in
+    subst (Called c) (sym (c .plan-of .ensures ∙ (λ i. planOf call (clockWith (l .s) (c .before .held .ensures i)) (long i - l .at))))
+    (means (a .pool .now) (l .s) (l .samples) (length (a .out .now) - l .at) (l .inv .long) call)
+
+-- ---- a tick or block
+
+-- the heap's first starts
+started : (c : tie.Else2 Inv-loop2 μ-loop2 Inv-loop4 μ-loop4 Inv-loop3 μ-loop3 Inv-loop5 μ-loop5 Inv-loop6 μ-loop6 Inv-loop μ-loop) → (let s = c .before .before .before .loop3 .s in (0 < s .«ready_len») × (s .«ready_len» ≤ 256) × ((getD (s .ready) 0 blank .«start_time» <ᶠ s .«active_threshold») ≡ true))
+started c = starts-true _ _ _ (sym (c .before .starts .ensures) ∙ not-false _ (c .if2 .left))
+
+taking : (c : tie.Joined3 Inv-loop2 μ-loop2 Inv-loop4 μ-loop4 Inv-loop3 μ-loop3 Inv-loop5 μ-loop5 Inv-loop6 μ-loop6 Inv-loop μ-loop) → (let s = c .before .before .before .before .before .loop3 .s in Taking s (getD (s .ready) 0 blank) (c .if3 .s) (c .if3 .event))
+taking c = ⊎-elim (λ w. taking-edit (w .2 .result) (w .2 .ensures) (w .5) (w .6)) (λ w. taking-none (w .0 .left) (w .1) (w .2)) (c .if3 .came)
+
+sized : (c : tie.Joined3 Inv-loop2 μ-loop2 Inv-loop4 μ-loop4 Inv-loop3 μ-loop3 Inv-loop5 μ-loop5 Inv-loop6 μ-loop6 Inv-loop μ-loop) → (0 < c .if3 .s .«ready_len») × (c .if3 .s .«ready_len» ≤ 256)
+sized c =
+    let e = taking-len (taking c) in
+    let h = started (c .before .before) in
+    (omega (arith, h .0), omega (arith, h .1))
+
+between : (c : tie.After-lesser-child Inv-loop2 μ-loop2 Inv-loop4 μ-loop4 Inv-loop3 μ-loop3 Inv-loop5 μ-loop5 Inv-loop6 μ-loop6 Inv-loop μ-loop) → (c .before .before .before .before .loop4 .i < c .lesser-child .result) × (c .lesser-child .result < lastPlace (c .before .before .before .before .before .before .if3 .s))
+between c = child-between (c .before .before .before .before .loop4 .s .ready) _ _ _ (c .lesser-child .ensures) (c .before .before .before .loop4-test .taken)
+
+-- the heap once the last has sunk
+popped : (c : tie.Left-loop4 Inv-loop2 μ-loop2 Inv-loop4 μ-loop4 Inv-loop3 μ-loop3 Inv-loop5 μ-loop5 Inv-loop6 μ-loop6 Inv-loop μ-loop)
+    → (let l = c .before .loop4 in let t = c .before .before .before .if3 .s in withReady (l .s) (set (l .s .ready) (l .i) (lastOf t)) (lastPlace t) ≡ poppedReady t)
+popped c =
+    let k = sized (c .before .before .before) in
+    let l = c .before .loop4 in
+    ⊎-elim (λ w. sunk-in-end (k .0) (k .1) (w .left) (l .inv .1))
+    (λ w. sunk-in-stop (k .0) (k .1) (child-is (l .s .ready) _ _ _ (w .3 .ensures)) refl (sym (w .5 .ensures) ∙ not-true _ (w .6 .taken)) (l .inv .1)) (c .loop4-test .came)
+
+-- place i holds an event
+inside : (c : tie.Then6 Inv-loop2 μ-loop2 Inv-loop4 μ-loop4 Inv-loop3 μ-loop3 Inv-loop5 μ-loop5 Inv-loop6 μ-loop6 Inv-loop μ-loop) → (c .before .before .loop5 .i < c .before .before .loop5 .s .«active_len») × (c .before .before .loop5 .s .«active_len» ≤ 256)
+inside c = within-true _ _ (sym (c .before .within .ensures) ∙ c .if6 .taken)
+
+-- the lists have changed, and the clock
+advanced-to : (c : tie.Else6 Inv-loop2 μ-loop2 Inv-loop4 μ-loop4 Inv-loop3 μ-loop3 Inv-loop5 μ-loop5 Inv-loop6 μ-loop6 Inv-loop μ-loop) → (let b = c .before .before .before .before .before .before .before .before .before .before .plan3 .given .0 .0 in let u = c .before .before .loop5 .s in withTimes u (b .end) (u .«active_threshold») ≡ advancedIn b (c .before .before .before .before .before .before .before .before .before .before .before .before .before .before .before .before .before .before .loop .s))
+advanced-to c =
+    advanced-by (c .before .before .before .before .before .before .before .before .before .before .plan3 .given .0 .0) (c .before .before .before .before .before .before .before .before .before .before .before .before .before .before .before .before .before .before .loop .s) _ (c .before .before .before .before .before .before .loop3 .s) (c .before .before .loop5 .s) (begun (c .before .before .before .before .before .before .before .before .before .before .plan3 .given .0 .0) (c .before .before .before .before .before .before .before .before .before .before .before .before .before .before .before .before .before .before .loop .s) (c .before .before .before .before .before .before .before .before .gone .ensures) (c .before .before .before .before .before .before .before .kept .ensures))
+    (starts-false _ _ (sym (c .before .before .before .before .starts .ensures) ∙ not-true _ (c .before .before .before .if2 .taken)) (c .before .before .before .before .before .before .loop3 .inv))
+    (within-false _ _ _ _ (sym (c .before .within .ensures) ∙ c .if6 .left) (c .before .before .loop5 .inv))
+
+renders-in : (c : tie.After-plan3 Inv-loop2 μ-loop2 Inv-loop4 μ-loop4 Inv-loop3 μ-loop3 Inv-loop5 μ-loop5 Inv-loop6 μ-loop6 Inv-loop μ-loop)
+    → (let l = c .before .before .before .before .before .before .before .before .loop in let a = c .before .before .before .before .before .before .before .before .before .before .before .before .before .before .args in let call = c .before .before .before .before .before .r .given .0 .1 .0 in
+    Renders (a .pool .now) (l .s) (appliedTo (a .pool .now) (l .s) call (l .samples)) (l .samples) (appliedOut (a .pool .now) (l .s) call (l .samples)) (length (a .out .now) - l .at) (c .plan3 .given .0 .0))
+renders-in c = subst (Called (c .before .before)) (c .plan3 .given .1) (meant (c .before .before))
+
+-- every event has been added
+summed : (c : tie.After-loop6 Inv-loop2 μ-loop2 Inv-loop4 μ-loop4 Inv-loop3 μ-loop3 Inv-loop5 μ-loop5 Inv-loop6 μ-loop6 Inv-loop μ-loop)
+    → (let b = c .before .before .before .before .before .before .before .before .before .before .before .before .before .before .plan3 .given .0 .0 in let s = c .before .before .before .before .before .before .before .before .before .before .before .before .before .before .before .before .before .before .before .before .before .before .loop .s in let pool = c .before .before .before .before .before .before .before .before .before .before .before .before .before .before .before .before .before .before .before .before .before .before .before .before .before .before .before .before .args .pool .now in
+    (c .before .loop6 .s ≡ renderedIn pool b s) × (take (c .before .before .cleared-places .result) (c .before .loop6 .mix) ≡ rowIn pool b s))
+summed c = passing-end (advanced-to (c .before .before .before .before)) (c .loop6-test .left) (c .before .loop6 .inv .0)
+
+-- the samples are those of the call
+written : (c : tie.After-write Inv-loop2 μ-loop2 Inv-loop4 μ-loop4 Inv-loop3 μ-loop3 Inv-loop5 μ-loop5 Inv-loop6 μ-loop6 Inv-loop μ-loop)
+    → (let l = c .before .before .before .before .before .before .before .before .before .before .before .before .before .before .before .before .before .before .before .before .before .before .before .before .before .before .loop in let a = c .before .before .before .before .before .before .before .before .before .before .before .before .before .before .before .before .before .before .before .before .before .before .before .before .before .before .before .before .before .before .before .before .args in c .write .last .1 .1 .0 ≡ appliedOut (a .pool .now) (l .s) (c .before .before .before .before .before .before .before .before .before .before .before .before .before .before .before .before .before .before .before .before .before .before .before .r .given .0 .1 .0) (l .samples))
+written c =
+    let b = c .before .before .before .before .before .before .before .before .before .before .before .before .before .before .before .before .before .before .plan3 .given .0 .0 in
+    let q : take (c .before .before .before .before .before .before .cleared-places .result - 0) (c .before .before .before .before .before .loop6 .mix) ≡ take (c .before .before .before .before .before .before .cleared-places .result) (c .before .before .before .before .before .loop6 .mix) = rw sub-zero in
+    c .write .ensures ∙ ap (λ (r : List Float). writtenTo b r (c .before .before .before .before .before .before .before .before .before .before .before .before .before .before .before .before .before .before .before .before .before .before .before .before .before .before .loop .samples)) (q ∙ summed (c .before .before .before .before) .1) ∙ sym (renders-in (c .before .before .before .before .before .before .before .before .before .before .before .before .before .before .before .before .before .before) .output)
+
+loop-holds : tie.Need-loop-holds Inv-loop2 μ-loop2 Inv-loop4 μ-loop4 Inv-loop3 μ-loop3 Inv-loop5 μ-loop5 Inv-loop6 μ-loop6 Inv-loop μ-loop
+loop-holds c = start _ _ _ _ _ (c .start .ensures) (c .before .before .before .before .before .pre)
+
+same-length : tie.Need-same-length Inv-loop2 μ-loop2 Inv-loop4 μ-loop4 Inv-loop3 μ-loop3 Inv-loop5 μ-loop5 Inv-loop6 μ-loop6 Inv-loop μ-loop
+same-length c = c .before .before .loop .inv .long ∙ sym (c .before .before .before .before .before .before .before .before .pre)
+
+same-length-2 : tie.Need-same-length-2 Inv-loop2 μ-loop2 Inv-loop4 μ-loop4 Inv-loop3 μ-loop3 Inv-loop5 μ-loop5 Inv-loop6 μ-loop6 Inv-loop μ-loop
+same-length-2 c = same-long (c .before .before .loop .inv .put)
+
+returns : tie.Need-returns Inv-loop2 μ-loop2 Inv-loop4 μ-loop4 Inv-loop3 μ-loop3 Inv-loop5 μ-loop5 Inv-loop6 μ-loop6 Inv-loop μ-loop
+returns c = ends-unread (c .before .before .loop .inv) (c .before .read .result) (c .before .read .ensures) (not-record (c .before .read .result) (c .match .keys2))
+
+sub-plan-of : tie.Need-sub-plan-of Inv-loop2 μ-loop2 Inv-loop4 μ-loop4 Inv-loop3 μ-loop3 Inv-loop5 μ-loop5 Inv-loop6 μ-loop6 Inv-loop μ-loop
+sub-plan-of c =
+    let w = c .before .before .before .before .before .loop .inv .within in
+    let s = same-long (c .before .before .before .before .before .loop .inv .put) in
+    omega arith
+
+loop-less : tie.Need-loop-less Inv-loop2 μ-loop2 Inv-loop4 μ-loop4 Inv-loop3 μ-loop3 Inv-loop5 μ-loop5 Inv-loop6 μ-loop6 Inv-loop μ-loop
+loop-less c =
+    let m = moves _ _ _ _ _ (reads (c .before .before)) in
+    let p = m .0 in
+    let q = m .1 in
+    omega arith
+
+loop-again : tie.Need-loop-again Inv-loop2 μ-loop2 Inv-loop4 μ-loop4 Inv-loop3 μ-loop3 Inv-loop5 μ-loop5 Inv-loop6 μ-loop6 Inv-loop μ-loop
+loop-again c =
+    let v = c .before .before .before .before .before .r .given .0 in
+    let m = subst (Called (c .before .before)) (c .enum-told .given .1) (meant (c .before .before)) in
+    goes-on-silent (c .before .before .before .before .before .before .before .before .loop .inv) (v .0) (v .1 .0) (v .1 .1 .0) (reads (c .before .before)) (m .0) (m .1) (m .2) _ refl
+
+same-length-3 : tie.Need-same-length-3 Inv-loop2 μ-loop2 Inv-loop4 μ-loop4 Inv-loop3 μ-loop3 Inv-loop5 μ-loop5 Inv-loop6 μ-loop6 Inv-loop μ-loop
+same-length-3 c = c .before .before .before .before .before .before .before .before .loop .inv .long ∙ sym (c .before .before .before .before .before .before .before .before .before .before .before .before .before .before .pre)
+
+same-length-4 : tie.Need-same-length-4 Inv-loop2 μ-loop2 Inv-loop4 μ-loop4 Inv-loop3 μ-loop3 Inv-loop5 μ-loop5 Inv-loop6 μ-loop6 Inv-loop μ-loop
+same-length-4 c = same-long (c .before .before .before .before .before .before .before .before .loop .inv .put)
+
+returns-2 : tie.Need-returns-2 Inv-loop2 μ-loop2 Inv-loop4 μ-loop4 Inv-loop3 μ-loop3 Inv-loop5 μ-loop5 Inv-loop6 μ-loop6 Inv-loop μ-loop
+returns-2 c =
+    let v = c .before .before .before .before .before .r .given .0 in
+    let m = subst (Called (c .before .before)) (c .enum-told2 .given .1) (meant (c .before .before)) in
+    ends-full (c .before .before .before .before .before .before .before .before .loop .inv) (v .0) (v .1 .0) (v .1 .1 .0) (reads (c .before .before)) _ _ refl refl (m .0) (m .1)
+
+mul-event : tie.Need-mul-event Inv-loop2 μ-loop2 Inv-loop4 μ-loop4 Inv-loop3 μ-loop3 Inv-loop5 μ-loop5 Inv-loop6 μ-loop6 Inv-loop μ-loop
+mul-event c =
+    let m = subst (Called (c .before .before .before .before)) (c .before .before .plan .given .1) (meant (c .before .before .before .before)) in
+    let h = m .2 in
+    search needs
+
+element-set-from-event : tie.Need-element-set-from-event Inv-loop2 μ-loop2 Inv-loop4 μ-loop4 Inv-loop3 μ-loop3 Inv-loop5 μ-loop5 Inv-loop6 μ-loop6 Inv-loop μ-loop
+element-set-from-event c =
+    let m = subst (Called (c .before .before .before .before)) (c .before .before .plan .given .1) (meant (c .before .before .before .before)) in
+    let h = m .2 in
+    search needs
+
+mul-id : tie.Need-mul-id Inv-loop2 μ-loop2 Inv-loop4 μ-loop4 Inv-loop3 μ-loop3 Inv-loop5 μ-loop5 Inv-loop6 μ-loop6 Inv-loop μ-loop
+mul-id c =
+    let m = subst (Called (c .before .before .before .before)) (c .before .before .plan .given .1) (meant (c .before .before .before .before)) in
+    let h = m .2 in
+    search needs
+
+element-set-from-id : tie.Need-element-set-from-id Inv-loop2 μ-loop2 Inv-loop4 μ-loop4 Inv-loop3 μ-loop3 Inv-loop5 μ-loop5 Inv-loop6 μ-loop6 Inv-loop μ-loop
+element-set-from-id c =
+    let m = subst (Called (c .before .before .before .before)) (c .before .before .plan .given .1) (meant (c .before .before .before .before)) in
+    let h = m .2 in
+    search needs
+
+add-s : tie.Need-add-s Inv-loop2 μ-loop2 Inv-loop4 μ-loop4 Inv-loop3 μ-loop3 Inv-loop5 μ-loop5 Inv-loop6 μ-loop6 Inv-loop μ-loop
+add-s c =
+    let m = subst (Called (c .before .before .before .before)) (c .before .before .plan .given .1) (meant (c .before .before .before .before)) in
+    let h = m .2 in
+    search needs
+
+loop-less-2 : tie.Need-loop-less-2 Inv-loop2 μ-loop2 Inv-loop4 μ-loop4 Inv-loop3 μ-loop3 Inv-loop5 μ-loop5 Inv-loop6 μ-loop6 Inv-loop μ-loop
+loop-less-2 c =
+    let m = moves _ _ _ _ _ (reads (c .before .before .before .before .before)) in
+    let p = m .0 in
+    let q = m .1 in
+    omega arith
+
+loop-again-2 : tie.Need-loop-again-2 Inv-loop2 μ-loop2 Inv-loop4 μ-loop4 Inv-loop3 μ-loop3 Inv-loop5 μ-loop5 Inv-loop6 μ-loop6 Inv-loop μ-loop
+loop-again-2 c =
+    let v = c .before .before .before .before .before .before .before .before .r .given .0 in
+    let m = subst (Called (c .before .before .before .before .before)) (c .before .before .before .plan .given .1) (meant (c .before .before .before .before .before)) in
+    goes-on-silent (c .before .before .before .before .before .before .before .before .before .before .before .loop .inv) (v .0) (v .1 .0) (v .1 .1 .0) (reads (c .before .before .before .before .before)) (m .0) (m .1) (λ z. omega arith) _ (entered-active (c .before .before .before .before .before .before .before .before .before .before .before .loop .s) (c .before .before .before .plan .given .0 .0) (m .2) (c .wrapping-add-u64 .ensures))
+
+loop2-holds : tie.Need-loop2-holds Inv-loop2 μ-loop2 Inv-loop4 μ-loop4 Inv-loop3 μ-loop3 Inv-loop5 μ-loop5 Inv-loop6 μ-loop6 Inv-loop μ-loop
+loop2-holds c = (subst (Called (c .before .before .before)) (c .before .plan2 .given .1) (meant (c .before .before .before)) .2, rising-in)
+
+loop2-again : tie.Need-loop2-again Inv-loop2 μ-loop2 Inv-loop4 μ-loop4 Inv-loop3 μ-loop3 Inv-loop5 μ-loop5 Inv-loop6 μ-loop6 Inv-loop μ-loop
+loop2-again c = (c .before .before .before .before .loop2 .inv .0, rising-in-on (c .before .before .before .loop2-test .taken) (sym (c .before .precedes .ensures) ∙ not-false _ (c .if1 .left)) (c .before .before .before .before .loop2 .inv .1))
+
+loop-less-3 : tie.Need-loop-less-3 Inv-loop2 μ-loop2 Inv-loop4 μ-loop4 Inv-loop3 μ-loop3 Inv-loop5 μ-loop5 Inv-loop6 μ-loop6 Inv-loop μ-loop
+loop-less-3 c =
+    let m = moves _ _ _ _ _ (reads (c .before .before .before .before .before .before)) in
+    let p = m .0 in
+    let q = m .1 in
+    omega arith
+
+loop-again-3 : tie.Need-loop-again-3 Inv-loop2 μ-loop2 Inv-loop4 μ-loop4 Inv-loop3 μ-loop3 Inv-loop5 μ-loop5 Inv-loop6 μ-loop6 Inv-loop μ-loop
+loop-again-3 c =
+    let v = c .before .before .before .before .before .before .before .before .before .r .given .0 in
+    let m = subst (Called (c .before .before .before .before .before .before)) (c .before .before .before .before .plan2 .given .1) (meant (c .before .before .before .before .before .before)) in
+    let i = c .before .before .loop2 .inv in
+    let g = ⊎-elim (λ w. risen-in-root (i .0) (w .left) (i .1)) (λ w. risen-in-stop (i .0) (sym (w .2 .ensures) ∙ not-true _ (w .3 .taken)) (i .1)) (c .before .loop2-test .came) in
+    goes-on-silent (c .before .before .before .before .before .before .before .before .before .before .before .before .loop .inv) (v .0) (v .1 .0) (v .1 .1 .0) (reads (c .before .before .before .before .before .before)) (m .0) (m .1) (λ z. omega arith) _ (entered-ready (c .before .before .before .before .before .before .before .before .before .before .before .before .loop .s) (c .before .before .loop2 .s) _ (c .before .before .before .before .plan2 .given .0 .0) (i .1 .same) g (c .wrapping-add-u642 .ensures))
+
+loop3-holds : tie.Need-loop3-holds Inv-loop2 μ-loop2 Inv-loop4 μ-loop4 Inv-loop3 μ-loop3 Inv-loop5 μ-loop5 Inv-loop6 μ-loop6 Inv-loop μ-loop
+unfolding readyToActive
+loop3-holds c = record { fuel = c .before .before .before .before .before .before .before .before .before .before .before .loop .s .«ready_len»; enough = omega arith; gives = refl }
+
+sub-m : tie.Need-sub-m Inv-loop2 μ-loop2 Inv-loop4 μ-loop4 Inv-loop3 μ-loop3 Inv-loop5 μ-loop5 Inv-loop6 μ-loop6 Inv-loop μ-loop
+sub-m c = let h = sized c in search needs
+
+mul-last : tie.Need-mul-last Inv-loop2 μ-loop2 Inv-loop4 μ-loop4 Inv-loop3 μ-loop3 Inv-loop5 μ-loop5 Inv-loop6 μ-loop6 Inv-loop μ-loop
+mul-last c = let h = sized c in search needs
+
+element-copy-out-last : tie.Need-element-copy-out-last Inv-loop2 μ-loop2 Inv-loop4 μ-loop4 Inv-loop3 μ-loop3 Inv-loop5 μ-loop5 Inv-loop6 μ-loop6 Inv-loop μ-loop
+element-copy-out-last c = let h = sized c in search needs
+
+loop4-holds : tie.Need-loop4-holds Inv-loop2 μ-loop2 Inv-loop4 μ-loop4 Inv-loop3 μ-loop3 Inv-loop5 μ-loop5 Inv-loop6 μ-loop6 Inv-loop μ-loop
+loop4-holds c = let h = sized (c .before) in (omega arith, sinking-in)
+
+mul-child : tie.Need-mul-child Inv-loop2 μ-loop2 Inv-loop4 μ-loop4 Inv-loop3 μ-loop3 Inv-loop5 μ-loop5 Inv-loop6 μ-loop6 Inv-loop μ-loop
+mul-child c = let h = between c in search needs
+
+element-copy-out-child : tie.Need-element-copy-out-child Inv-loop2 μ-loop2 Inv-loop4 μ-loop4 Inv-loop3 μ-loop3 Inv-loop5 μ-loop5 Inv-loop6 μ-loop6 Inv-loop μ-loop
+element-copy-out-child c = let h = between c in search needs
+
+loop4-less : tie.Need-loop4-less Inv-loop2 μ-loop2 Inv-loop4 μ-loop4 Inv-loop3 μ-loop3 Inv-loop5 μ-loop5 Inv-loop6 μ-loop6 Inv-loop μ-loop
+loop4-less c = let h = between (c .before .before .before) in omega arith
+
+loop4-again : tie.Need-loop4-again Inv-loop2 μ-loop2 Inv-loop4 μ-loop4 Inv-loop3 μ-loop3 Inv-loop5 μ-loop5 Inv-loop6 μ-loop6 Inv-loop μ-loop
+loop4-again c =
+    let l = c .before .before .before .before .before .before .before .loop4 in
+    let h = between (c .before .before .before) in
+    (l .inv .0, sinking-in-on (c .before .before .before .before .before .before .loop4-test .taken) (child-is (l .s .ready) _ _ _ (c .before .before .before .lesser-child .ensures)) (omega arith) refl (sym (c .before .precedes2 .ensures) ∙ not-false _ (c .if4 .left)) (l .inv .1))
+
+loop3-less : tie.Need-loop3-less Inv-loop2 μ-loop2 Inv-loop4 μ-loop4 Inv-loop3 μ-loop3 Inv-loop5 μ-loop5 Inv-loop6 μ-loop6 Inv-loop μ-loop
+loop3-less c =
+    let e = taking-len (taking (c .before .before .before .before)) in
+    omega (arith, started (c .before .before .before .before .before .before) .0)
+
+loop3-again : tie.Need-loop3-again Inv-loop2 μ-loop2 Inv-loop4 μ-loop4 Inv-loop3 μ-loop3 Inv-loop5 μ-loop5 Inv-loop6 μ-loop6 Inv-loop μ-loop
+loop3-again c =
+    let h = started (c .before .before .before .before .before .before) in
+    activating-room _ _ (h .0) (h .1) (h .2) (taking (c .before .before .before .before)) (popped (c .before)) (c .before .before .before .before .before .before .before .before .before .loop3 .inv) refl (c .if5 .taken)
+
+loop3-less-2 : tie.Need-loop3-less-2 Inv-loop2 μ-loop2 Inv-loop4 μ-loop4 Inv-loop3 μ-loop3 Inv-loop5 μ-loop5 Inv-loop6 μ-loop6 Inv-loop μ-loop
+loop3-less-2 c =
+    let e = taking-len (taking (c .before .before .before .before)) in
+    omega (arith, started (c .before .before .before .before .before .before) .0)
+
+loop3-again-2 : tie.Need-loop3-again-2 Inv-loop2 μ-loop2 Inv-loop4 μ-loop4 Inv-loop3 μ-loop3 Inv-loop5 μ-loop5 Inv-loop6 μ-loop6 Inv-loop μ-loop
+loop3-again-2 c =
+    let h = started (c .before .before .before .before .before .before) in
+    activating-full _ _ (h .0) (h .1) (h .2) (taking (c .before .before .before .before)) (popped (c .before)) (c .before .before .before .before .before .before .before .before .before .loop3 .inv) (c .if5 .left)
+
+loop5-holds : tie.Need-loop5-holds Inv-loop2 μ-loop2 Inv-loop4 μ-loop4 Inv-loop3 μ-loop3 Inv-loop5 μ-loop5 Inv-loop6 μ-loop6 Inv-loop μ-loop
+unfolding activeToPast
+loop5-holds c = record { fuel = c .before .before .before .loop3 .s .«active_len»; enough = omega arith; gives = refl }
+
+mul-event-4 : tie.Need-mul-event-4 Inv-loop2 μ-loop2 Inv-loop4 μ-loop4 Inv-loop3 μ-loop3 Inv-loop5 μ-loop5 Inv-loop6 μ-loop6 Inv-loop μ-loop
+mul-event-4 c = let h = inside c in search needs
+
+element-copy-out-event : tie.Need-element-copy-out-event Inv-loop2 μ-loop2 Inv-loop4 μ-loop4 Inv-loop3 μ-loop3 Inv-loop5 μ-loop5 Inv-loop6 μ-loop6 Inv-loop μ-loop
+element-copy-out-event c = let h = inside c in search needs
+
+sub-n : tie.Need-sub-n Inv-loop2 μ-loop2 Inv-loop4 μ-loop4 Inv-loop3 μ-loop3 Inv-loop5 μ-loop5 Inv-loop6 μ-loop6 Inv-loop μ-loop
+sub-n c = let h = inside (c .before .before .before .before) in search needs
+
+mul-last-3 : tie.Need-mul-last-3 Inv-loop2 μ-loop2 Inv-loop4 μ-loop4 Inv-loop3 μ-loop3 Inv-loop5 μ-loop5 Inv-loop6 μ-loop6 Inv-loop μ-loop
+mul-last-3 c = let h = inside (c .before .before .before .before) in search needs
+
+element-copy-out-last-2 : tie.Need-element-copy-out-last-2 Inv-loop2 μ-loop2 Inv-loop4 μ-loop4 Inv-loop3 μ-loop3 Inv-loop5 μ-loop5 Inv-loop6 μ-loop6 Inv-loop μ-loop
+element-copy-out-last-2 c = let h = inside (c .before .before .before .before) in search needs
+
+mul-last-4 : tie.Need-mul-last-4 Inv-loop2 μ-loop2 Inv-loop4 μ-loop4 Inv-loop3 μ-loop3 Inv-loop5 μ-loop5 Inv-loop6 μ-loop6 Inv-loop μ-loop
+mul-last-4 c = let h = inside (c .before .before .before .before .before) in search needs
+
+element-set-from-last-2 : tie.Need-element-set-from-last-2 Inv-loop2 μ-loop2 Inv-loop4 μ-loop4 Inv-loop3 μ-loop3 Inv-loop5 μ-loop5 Inv-loop6 μ-loop6 Inv-loop μ-loop
+element-set-from-last-2 c = let h = inside (c .before .before .before .before .before) in search needs
+
+mul-id-3 : tie.Need-mul-id-3 Inv-loop2 μ-loop2 Inv-loop4 μ-loop4 Inv-loop3 μ-loop3 Inv-loop5 μ-loop5 Inv-loop6 μ-loop6 Inv-loop μ-loop
+mul-id-3 c = let h = inside (c .before .before .before .before .before) in search needs
+
+element-copy-out-id : tie.Need-element-copy-out-id Inv-loop2 μ-loop2 Inv-loop4 μ-loop4 Inv-loop3 μ-loop3 Inv-loop5 μ-loop5 Inv-loop6 μ-loop6 Inv-loop μ-loop
+element-copy-out-id c = let h = inside (c .before .before .before .before .before) in search needs
+
+mul-id-4 : tie.Need-mul-id-4 Inv-loop2 μ-loop2 Inv-loop4 μ-loop4 Inv-loop3 μ-loop3 Inv-loop5 μ-loop5 Inv-loop6 μ-loop6 Inv-loop μ-loop
+mul-id-4 c = let h = inside (c .before .before .before .before .before .before) in search needs
+
+element-set-from-id-3 : tie.Need-element-set-from-id-3 Inv-loop2 μ-loop2 Inv-loop4 μ-loop4 Inv-loop3 μ-loop3 Inv-loop5 μ-loop5 Inv-loop6 μ-loop6 Inv-loop μ-loop
+element-set-from-id-3 c = let h = inside (c .before .before .before .before .before .before) in search needs
+
+loop5-less : tie.Need-loop5-less Inv-loop2 μ-loop2 Inv-loop4 μ-loop4 Inv-loop3 μ-loop3 Inv-loop5 μ-loop5 Inv-loop6 μ-loop6 Inv-loop μ-loop
+loop5-less c = let h = inside (c .before .before .before .before .before .before .before) in omega arith
+
+loop5-again : tie.Need-loop5-again Inv-loop2 μ-loop2 Inv-loop4 μ-loop4 Inv-loop3 μ-loop3 Inv-loop5 μ-loop5 Inv-loop6 μ-loop6 Inv-loop μ-loop
+loop5-again c =
+    let h = inside (c .before .before .before .before .before .before .before) in
+    finishing-room _ _ _ _ (h .0) (h .1) (c .before .before .before .if7 .taken) (c .if8 .taken) (c .before .before .before .before .before .before .before .before .before .loop5 .inv)
+
+loop5-less-2 : tie.Need-loop5-less-2 Inv-loop2 μ-loop2 Inv-loop4 μ-loop4 Inv-loop3 μ-loop3 Inv-loop5 μ-loop5 Inv-loop6 μ-loop6 Inv-loop μ-loop
+loop5-less-2 c = let h = inside (c .before .before .before .before .before .before .before) in omega arith
+
+loop5-again-2 : tie.Need-loop5-again-2 Inv-loop2 μ-loop2 Inv-loop4 μ-loop4 Inv-loop3 μ-loop3 Inv-loop5 μ-loop5 Inv-loop6 μ-loop6 Inv-loop μ-loop
+loop5-again-2 c =
+    let h = inside (c .before .before .before .before .before .before .before) in
+    finishing-full _ _ _ _ (h .0) (h .1) (c .before .before .before .if7 .taken) (c .if8 .left) (c .before .before .before .before .before .before .before .before .before .loop5 .inv)
+
+add-i : tie.Need-add-i Inv-loop2 μ-loop2 Inv-loop4 μ-loop4 Inv-loop3 μ-loop3 Inv-loop5 μ-loop5 Inv-loop6 μ-loop6 Inv-loop μ-loop
+add-i c = let h = inside (c .before .before .before .before) in search needs
+
+loop5-less-3 : tie.Need-loop5-less-3 Inv-loop2 μ-loop2 Inv-loop4 μ-loop4 Inv-loop3 μ-loop3 Inv-loop5 μ-loop5 Inv-loop6 μ-loop6 Inv-loop μ-loop
+loop5-less-3 c = let h = inside (c .before .before .before .before) in omega arith
+
+loop5-again-3 : tie.Need-loop5-again-3 Inv-loop2 μ-loop2 Inv-loop4 μ-loop4 Inv-loop3 μ-loop3 Inv-loop5 μ-loop5 Inv-loop6 μ-loop6 Inv-loop μ-loop
+loop5-again-3 c =
+    let h = inside (c .before .before .before .before) in
+    finishing-on _ _ _ _ (h .0) (h .1) (c .if7 .left) (c .before .before .before .before .before .before .loop5 .inv)
+
+loop6-holds : tie.Need-loop6-holds Inv-loop2 μ-loop2 Inv-loop4 μ-loop4 Inv-loop3 μ-loop3 Inv-loop5 μ-loop5 Inv-loop6 μ-loop6 Inv-loop μ-loop
+unfolding ofBits
+loop6-holds c =
+    let k = c .cleared-places .result in
+    (passing-start (c .before .least .ensures) (take-replicate k 64 zeroᶠ (omega (arith, c .cleared-places .ensures)) ∙ ap (λ (n : ℕ). replicate n zeroᶠ) (c .cleared-places .ensures)), refl)
+
+mul-event-6 : tie.Need-mul-event-6 Inv-loop2 μ-loop2 Inv-loop4 μ-loop4 Inv-loop3 μ-loop3 Inv-loop5 μ-loop5 Inv-loop6 μ-loop6 Inv-loop μ-loop
+mul-event-6 c = omega (arith, c .before .loop6 .inv .0 .count, c .loop6-test .taken)
+
+element-copy-out-event-2 : tie.Need-element-copy-out-event-2 Inv-loop2 μ-loop2 Inv-loop4 μ-loop4 Inv-loop3 μ-loop3 Inv-loop5 μ-loop5 Inv-loop6 μ-loop6 Inv-loop μ-loop
+element-copy-out-event-2 c = omega (arith, c .before .loop6 .inv .0 .count, c .loop6-test .taken)
+
+part-mix-end : tie.Need-part-mix-end Inv-loop2 μ-loop2 Inv-loop4 μ-loop4 Inv-loop3 μ-loop3 Inv-loop5 μ-loop5 Inv-loop6 μ-loop6 Inv-loop μ-loop
+part-mix-end c = omega (arith, c .before .before .before .cleared-places .ensures, c .before .before .loop6 .inv .1)
+
+mul-event-7 : tie.Need-mul-event-7 Inv-loop2 μ-loop2 Inv-loop4 μ-loop4 Inv-loop3 μ-loop3 Inv-loop5 μ-loop5 Inv-loop6 μ-loop6 Inv-loop μ-loop
+mul-event-7 c = omega (arith, c .before .before .before .before .before .loop6 .inv .0 .count, c .before .before .before .before .loop6-test .taken)
+
+element-set-from-event-5 : tie.Need-element-set-from-event-5 Inv-loop2 μ-loop2 Inv-loop4 μ-loop4 Inv-loop3 μ-loop3 Inv-loop5 μ-loop5 Inv-loop6 μ-loop6 Inv-loop μ-loop
+element-set-from-event-5 c = omega (arith, c .before .before .before .before .before .loop6 .inv .0 .count, c .before .before .before .before .loop6-test .taken)
+
+loop6-again : tie.Need-loop6-again Inv-loop2 μ-loop2 Inv-loop4 μ-loop4 Inv-loop3 μ-loop3 Inv-loop5 μ-loop5 Inv-loop6 μ-loop6 Inv-loop μ-loop
+loop6-again c =
+    let l = c .before .before .before .before .before .loop6 in
+    let k = c .before .before .before .before .before .before .cleared-places .result in
+    let r = c .before .sound in
+    let ys = r .last .1 .1 .1 .0 in
+    let kept = r .kept .1 .1 .1 .0 in
+    let h : k ≤ length (l .mix) = omega (arith, c .before .before .before .before .before .before .cleared-places .ensures, l .inv .1) in
+    let q : take k (ys ++ drop (k - 0) (l .mix)) ≡ ys = take-at ys (drop (k - 0) (l .mix)) k (kept ∙ rw sub-zero (length-take-le k (l .mix) h)) in
+    let v : ys ≡ soundedRow (c .before .before .before .before .before .before .before .before .before .before .before .before .before .before .before .before .before .before .before .before .before .before .before .before .before .before .before .before .before .before .before .before .args .pool .now) (c .before .before .before .before .before .before .before .before .before .before .before .before .before .before .before .before .before .before .plan3 .given .0 .0) (take k (l .mix)) (getD (l .s .active) (l .k) blank) = r .ensures .1 ∙ rw sub-zero in
+    (passing-on refl (r .ensures .0) (q ∙ v) (c .before .before .before .before .loop6-test .taken) (l .inv .0), same-len-mid 0 (k - 0) (l .mix) ys kept ∙ l .inv .1)
+
+part-write-end : tie.Need-part-write-end Inv-loop2 μ-loop2 Inv-loop4 μ-loop4 Inv-loop3 μ-loop3 Inv-loop5 μ-loop5 Inv-loop6 μ-loop6 Inv-loop μ-loop
+part-write-end c = omega (arith, c .before .before .before .cleared-places .ensures, c .before .before .loop6 .inv .1)
+
+put-channels-requires : tie.Need-put-channels-requires Inv-loop2 μ-loop2 Inv-loop4 μ-loop4 Inv-loop3 μ-loop3 Inv-loop5 μ-loop5 Inv-loop6 μ-loop6 Inv-loop μ-loop
+put-channels-requires c κs =
+    let g = renders-in (c .before .before .before .before .before .before .before .before .before .before .before .before .before .before .before .before .before .before .before .before .before .before) in
+    let o : length (c .before .before .before .before .write .last .1 .1 .0) ≡ 512 = ap length (written (c .before .before .before .before)) ∙ g .long in
+    let i = g .inside in
+    let f = g .fits in
+    let w = c .before .before .before .before .before .before .before .before .before .before .before .before .before .before .before .before .before .before .before .before .before .before .before .before .before .before .before .before .before .before .loop .inv .within in
+    let s = same-long (c .before .before .before .before .before .before .before .before .before .before .before .before .before .before .before .before .before .before .before .before .before .before .before .before .before .before .before .before .before .before .loop .inv .put) in
+    (g .wide, (omega arith, omega arith))
+
+mul-at : tie.Need-mul-at Inv-loop2 μ-loop2 Inv-loop4 μ-loop4 Inv-loop3 μ-loop3 Inv-loop5 μ-loop5 Inv-loop6 μ-loop6 Inv-loop μ-loop
+mul-at c =
+    let g = renders-in (c .before .before .before .before .before .before .before .before .before .before .before .before .before .before .before .before .before .before .before .before .before .before .before .before .before .before) in
+    let z = mul-le-mul (g .few) (g .small) in
+    record { fits = omega arith }
+
+mul-at-2 : tie.Need-mul-at-2 Inv-loop2 μ-loop2 Inv-loop4 μ-loop4 Inv-loop3 μ-loop3 Inv-loop5 μ-loop5 Inv-loop6 μ-loop6 Inv-loop μ-loop
+mul-at-2 c =
+    let g = renders-in (c .before .before .before .before .before .before .before .before .before .before .before .before .before .before .before .before .before .before .before .before .before .before .before .before .before .before) in
+    let z = mul-le-mul (g .few) (g .small) in
+    record { fits = omega arith }
+
+add-at : tie.Need-add-at Inv-loop2 μ-loop2 Inv-loop4 μ-loop4 Inv-loop3 μ-loop3 Inv-loop5 μ-loop5 Inv-loop6 μ-loop6 Inv-loop μ-loop
+add-at c =
+    let g = renders-in (c .before .before .before .before .before .before .before .before .before .before .before .before .before .before .before .before .before .before .before .before .before .before .before .before .before .before) in
+    let f = g .fits in
+    let w = c .before .before .before .before .before .before .before .before .before .before .before .before .before .before .before .before .before .before .before .before .before .before .before .before .before .before .before .before .before .before .before .before .before .before .loop .inv .within in
+    let s = same-long (c .before .before .before .before .before .before .before .before .before .before .before .before .before .before .before .before .before .before .before .before .before .before .before .before .before .before .before .before .before .before .before .before .before .before .loop .inv .put) in
+    let z = c .before .before .before .before .before .before .before .before .before .before .before .before .before .before .before .before .before .before .before .before .before .before .before .before .before .before .before .before .before .before .before .before .before .before .before .before .before .before .before .before .good in
+    omega arith
+
+loop-less-4 : tie.Need-loop-less-4 Inv-loop2 μ-loop2 Inv-loop4 μ-loop4 Inv-loop3 μ-loop3 Inv-loop5 μ-loop5 Inv-loop6 μ-loop6 Inv-loop μ-loop
+loop-less-4 c =
+    let m = moves _ _ _ _ _ (reads (c .before .before .before .before .before .before .before .before .before .before .before .before .before .before .before .before .before .before .before .before .before .before .before .before .before .before .before .before)) in
+    let p = m .0 in
+    let q = m .1 in
+    omega arith
+
+loop-again-4 : tie.Need-loop-again-4 Inv-loop2 μ-loop2 Inv-loop4 μ-loop4 Inv-loop3 μ-loop3 Inv-loop5 μ-loop5 Inv-loop6 μ-loop6 Inv-loop μ-loop
+loop-again-4 c =
+    let v = c .before .before .before .before .before .before .before .before .before .before .before .before .before .before .before .before .before .before .before .before .before .before .before .before .before .before .before .before .before .before .before .r .given .0 in
+    let l = c .before .before .before .before .before .before .before .before .before .before .before .before .before .before .before .before .before .before .before .before .before .before .before .before .before .before .before .before .before .before .before .before .before .before .loop in
+    let b = c .before .before .before .before .before .before .before .before .before .before .before .before .before .before .before .before .before .before .before .before .before .before .before .before .before .before .plan3 .given .0 .0 in
+    let g = renders-in (c .before .before .before .before .before .before .before .before .before .before .before .before .before .before .before .before .before .before .before .before .before .before .before .before .before .before) in
+    let o = c .before .before .before .before .before .before .before .before .write .last .1 .1 .0 in
+    let x = written (c .before .before .before .before .before .before .before .before) in
+    let long : length o ≡ 512 = ap length x ∙ g .long in
+    let i = g .inside in
+    let n = sound-length (b .channels) (b .size) (b .stride) o (g .wide) (omega arith) in
+    let f = g .fits in
+    goes-on (l .inv) (v .0) (v .1 .0) (v .1 .1 .0) (reads (c .before .before .before .before .before .before .before .before .before .before .before .before .before .before .before .before .before .before .before .before .before .before .before .before .before .before .before .before)) (heardIn (c .before .before .before .before .before .before .before .before .before .before .before .before .before .before .before .before .before .before .before .before .before .before .before .before .before .before .before .before .before .before .before .before .before .before .before .before .before .before .before .before .args .pool .now) b (l .s)) o (sym (g .gives)) x long (λ z. omega arith) (omega arith) _ (c .before .before .before .put-channels .ensures) _ (ap (λ (k : ℕ). l .at + k) n) _ (summed (c .before .before .before .before .before .before .before .before .before .before .before .before) .0)
+
+same-length-5 : tie.Need-same-length-5 Inv-loop2 μ-loop2 Inv-loop4 μ-loop4 Inv-loop3 μ-loop3 Inv-loop5 μ-loop5 Inv-loop6 μ-loop6 Inv-loop μ-loop
+same-length-5 c =
+    let m = subst (Called (c .before .before .before .before .before .before .before .before)) (c .before .before .before .before .before .before .enum-told3 .given .1) (meant (c .before .before .before .before .before .before .before .before)) in
+    ap length (c .before .before .before .before .apply .ensures .1 ∙ m .1) ∙ c .before .before .before .before .before .before .before .before .before .before .before .before .before .before .loop .inv .long ∙ sym (c .before .before .before .before .before .before .before .before .before .before .before .before .before .before .before .before .before .before .before .before .pre)
+
+same-length-6 : tie.Need-same-length-6 Inv-loop2 μ-loop2 Inv-loop4 μ-loop4 Inv-loop3 μ-loop3 Inv-loop5 μ-loop5 Inv-loop6 μ-loop6 Inv-loop μ-loop
+same-length-6 c = same-long (c .before .before .before .before .before .before .before .before .before .before .before .before .before .before .loop .inv .put)
+
+returns-3 : tie.Need-returns-3 Inv-loop2 μ-loop2 Inv-loop4 μ-loop4 Inv-loop3 μ-loop3 Inv-loop5 μ-loop5 Inv-loop6 μ-loop6 Inv-loop μ-loop
+returns-3 c =
+    let v = c .before .before .before .before .before .before .before .before .before .before .before .r .given .0 in
+    ends-refused (c .before .before .before .before .before .before .before .before .before .before .before .before .before .before .loop .inv) (v .0) (v .1 .0) (v .1 .1 .0) (reads (c .before .before .before .before .before .before .before .before)) (c .before .before .before .before .apply .result) _ (c .before .before .before .before .apply .ensures .0) (c .before .before .before .before .apply .ensures .1) (c .if9 .taken)
+
+loop-less-5 : tie.Need-loop-less-5 Inv-loop2 μ-loop2 Inv-loop4 μ-loop4 Inv-loop3 μ-loop3 Inv-loop5 μ-loop5 Inv-loop6 μ-loop6 Inv-loop μ-loop
+loop-less-5 c =
+    let m = moves _ _ _ _ _ (reads (c .before .before .before .before .before .before .before .before .before)) in
+    let p = m .0 in
+    let q = m .1 in
+    omega arith
+
+loop-again-5 : tie.Need-loop-again-5 Inv-loop2 μ-loop2 Inv-loop4 μ-loop4 Inv-loop3 μ-loop3 Inv-loop5 μ-loop5 Inv-loop6 μ-loop6 Inv-loop μ-loop
+loop-again-5 c =
+    let v = c .before .before .before .before .before .before .before .before .before .before .before .before .r .given .0 in
+    let l = c .before .before .before .before .before .before .before .before .before .before .before .before .before .before .before .loop in
+    let a = c .before .before .before .before .before .before .before .before .before .before .before .before .before .before .before .before .before .before .before .before .before .args in
+    let m = subst (Called (c .before .before .before .before .before .before .before .before .before)) (c .before .before .before .before .before .before .before .enum-told3 .given .1) (meant (c .before .before .before .before .before .before .before .before .before)) in
+    subst (λ (o : List Float). Rolling (a .pool .now) (a .tape .now) (a .out .now) (l .out) (a .samples .now) o (c .before .before .before .before .before .apply .result .sequencer) (v .1 .1 .0) (l .at)) (sym (c .before .before .before .before .before .apply .ensures .1 ∙ m .1))
+    (goes-on-silent (l .inv) (v .0) (v .1 .0) (v .1 .1 .0) (reads (c .before .before .before .before .before .before .before .before .before)) (m .0) (m .1) (λ z. c .before .if9 .left (ap (λ (x : Applied). x .refusal) (c .before .before .before .before .before .apply .ensures .0) ∙ z)) (c .before .before .before .before .before .apply .result .sequencer) (ap (λ (x : Applied). x .sequencer) (c .before .before .before .before .before .apply .ensures .0)))
+
+pub run-spec : {M : Type 1} → statement M
+run-spec =
+    tie.close
+    (tie.spec Inv-loop2 μ-loop2 Inv-loop4 μ-loop4 Inv-loop3 μ-loop3 Inv-loop5 μ-loop5 Inv-loop6 μ-loop6 Inv-loop μ-loop
+    (λ c κs. search needs) loop-holds (λ c κs. search needs) (λ c. search needs) same-length same-length-2 returns (λ c κs. search needs)
+    sub-plan-of (λ c κs. search needs) (λ c. search needs) loop-less loop-again (λ c. search needs) same-length-3 same-length-4 returns-2
+    (λ c. search needs) mul-event element-set-from-event mul-id element-set-from-id add-s (λ c κs. search needs) loop-less-2 loop-again-2
+    (λ c. search needs) loop2-holds (λ c. search needs) (λ c. search needs) (λ c. search needs) (λ c κs. search needs) (λ c. search needs)
+    (λ c. search needs) (λ c. search needs) loop2-again (λ c. search needs) (λ c. search needs) (λ c. search needs) (λ c κs. search needs)
+    loop-less-3 loop-again-3 (λ c. search needs) (λ c κs. search needs) (λ c κs. search needs) loop3-holds (λ c. search needs)
+    (λ c κs. search needs) (λ c κs. search needs) sub-m mul-last element-copy-out-last loop4-holds (λ c. search needs) (λ c. search needs)
+    (λ c. search needs) (λ c. search needs) (λ c. search needs) (λ c. search needs) (λ c. search needs) (λ c. search needs)
+    (λ c. search needs) (λ c. search needs) (λ c. search needs) (λ c. search needs) (λ c κs. search needs) mul-child element-copy-out-child
+    (λ c κs. search needs) (λ c. search needs) (λ c. search needs) loop4-less loop4-again (λ c. search needs) (λ c. search needs)
+    (λ c. search needs) (λ c. search needs) (λ c. search needs) (λ c. search needs) (λ c. search needs) loop3-less loop3-again loop3-less-2
+    loop3-again-2 loop5-holds (λ c κs. search needs) mul-event-4 element-copy-out-event sub-n mul-last-3 element-copy-out-last-2 mul-last-4
+    element-set-from-last-2 mul-id-3 element-copy-out-id mul-id-4 element-set-from-id-3 (λ c. search needs) (λ c. search needs)
+    (λ c. search needs) loop5-less loop5-again loop5-less-2 loop5-again-2 add-i loop5-less-3 loop5-again-3 (λ c κs. search needs)
+    (λ c κs. search needs) loop6-holds mul-event-6 element-copy-out-event-2 (λ c. search needs) (λ c. search needs) part-mix-end
+    (λ c κs. search needs) mul-event-7 element-set-from-event-5 (λ c. search needs) (λ c. search needs) loop6-again (λ c. search needs)
+    (λ c. search needs) part-write-end (λ c κs. search needs) put-channels-requires mul-at mul-at-2 add-at loop-less-4 loop-again-4
+    (λ c. search needs) (λ c κs. search needs) same-length-5 same-length-6 returns-3 loop-less-5 loop-again-5)

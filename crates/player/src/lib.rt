@@ -1,0 +1,169 @@
+// A tape's records on an engine that stays in place.
+mod bytes;
+
+ghost use mathlib.Core.Path.{_≡_};
+ghost use mathlib.Core.List.{_++_};
+ghost use lib.ListN.{length, drop};
+ghost use Rattle.tape.specs.Pool.{trailPool};
+ghost use Rattle.player.specs.Records.{playedInto, played};
+use plans::Clock;
+use plans::Plan;
+use refusals::held;
+use runs::least;
+use tape::reader::Cursor;
+use tape::reader::Read;
+
+fn run(tape: &[u8], pool: &[f32], samples: &mut [f32], out: &mut [u8]) -> usize
+    requires { ⌜ length (now samples) ≡ 512 ⌝ }
+    ensures { λ r. ⌜ r ≡ length (playedInto (now (pool .entry)) (now (tape .entry)) (now (samples .entry)) (length (now (out .entry)))) ⌝ }
+    ensures { λ r. ⌜ now (out .exit) ≡ playedInto (now (pool .entry)) (now (tape .entry)) (now (samples .entry)) (length (now (out .entry))) ++ drop r (now (out .entry)) ⌝ }
+{
+    let mut s = apply::start();
+    let mut cursor = Cursor { at: 0, first: true };
+    let mut at: usize = 0;
+    loop {
+        let r = cursor.read(tape);
+        let Read::Record {
+            kind: _,
+            call,
+            next,
+        } = r
+        else {
+            return at;
+        };
+        cursor = next;
+        let mode = s.mode;
+        let clock = Clock {
+            time: s.time,
+            threshold: s.active_threshold,
+            rate: s.sample_rate,
+            duration: s.sample_duration,
+            outputs: s.outputs,
+            mode,
+            held: held(s.ready_len, s.active_len, s.past_len),
+            next: s.next,
+        };
+        let plan = plans::plan_of(call, clock, out.len() - at);
+        match plan {
+            Plan::Refuse(_) => {}
+            Plan::Full => {
+                return at;
+            }
+            Plan::Sound(event) => {
+                let n = s.active_len;
+                let id = event.id;
+                s.active[n] = event;
+                s.active_map[n] = id;
+                s.active_len = n + 1;
+                s.next = std::num::wrapping_add_u64(s.next, 1);
+            }
+            Plan::Wait(event) => {
+                let n = s.ready_len;
+                let mut i = n;
+                while 0 < i {
+                    let p = (i - 1) / 2;
+                    let parent = s.ready[p];
+                    if !event.precedes(parent) {
+                        break;
+                    }
+                    s.ready[i] = parent;
+                    i = p;
+                }
+                s.ready[i] = event;
+                s.ready_len = n + 1;
+                s.next = std::num::wrapping_add_u64(s.next, 1);
+            }
+            Plan::Render(step) => {
+                s.let_go = plans::gone(step.releases, s.let_go, s.past_len);
+                s.past_len = plans::kept(step.releases, s.past_len);
+                s.active_threshold = step.threshold;
+                loop {
+                    let first = s.ready[0];
+                    if !plans::starts(s.ready_len, first.start_time, s.active_threshold) {
+                        break;
+                    }
+                    let id = first.id;
+                    let mut event = first;
+                    if 0 < s.edit_map.len {
+                        let edits = s.edit_map;
+                        let t = plans::take_edit(edits, first);
+                        event = t.event;
+                        let edits = t.edits;
+                        s.edit_map = edits;
+                    }
+                    let m = s.ready_len - 1;
+                    let last = s.ready[m];
+                    let mut i = 0;
+                    while 2 * i + 1 < m {
+                        let left = s.ready[2 * i + 1];
+                        let right = s.ready[2 * i + 2];
+                        let c = plans::lesser_child(2 * i + 1, m, left, right);
+                        let child = s.ready[c];
+                        if !child.precedes(last) {
+                            break;
+                        }
+                        s.ready[i] = child;
+                        i = c;
+                    }
+                    s.ready[i] = last;
+                    s.ready_len = m;
+                    let n = s.active_len;
+                    if n < 256 {
+                        s.active[n] = event;
+                        s.active_map[n] = id;
+                        s.active_len = n + 1;
+                    }
+                }
+                let mut i = 0;
+                while plans::within(i, s.active_len) {
+                    let event = s.active[i];
+                    if event.end_time <= step.limit {
+                        let n = s.active_len - 1;
+                        let last = s.active[n];
+                        s.active[i] = last;
+                        let id = s.active_map[n];
+                        s.active_map[i] = id;
+                        s.active_len = n;
+                        let k = s.past_len;
+                        if k < 256 {
+                            s.past[k] = event;
+                            s.past_len = k + 1;
+                        }
+                    } else {
+                        i = i + 1;
+                    }
+                }
+                s.time = step.end;
+                let m = least(s.active_len, 256);
+                let w = mixing::cleared_places(step.size);
+                let mut mix = [0.0f32; 64];
+                let mut k = 0;
+                while k < m {
+                    let event = s.active[k];
+                    let event = plans::sound(event, step, pool, &mut mix[0..w]);
+                    s.active[k] = event;
+                    k = k + 1;
+                }
+                plans::write(step, &mix[0..w], samples);
+                bytes::put_channels(samples, step.channels, step.size, step.stride, out, at);
+                at = at + 4 * (step.channels * step.size);
+            }
+            Plan::Other => {
+                let a = apply::apply(s, call, pool, samples);
+                if a.refusal == 1 {
+                    return at;
+                }
+                s = a.sequencer;
+            }
+        }
+    }
+}
+
+pub fn play(tape: &[u8], out: &mut [u8]) -> usize
+    ensures { λ r. ⌜ r ≡ length (played trailPool (now (tape .entry)) (length (now (out .entry)))) ⌝ }
+    ensures { λ r. ⌜ now (out .exit) ≡ played trailPool (now (tape .entry)) (length (now (out .entry))) ++ drop r (now (out .entry)) ⌝ }
+{
+    let pool = tape::pool::trail_pool();
+    let mut samples = apply::silence();
+    run(tape, &pool, &mut samples, out)
+}
