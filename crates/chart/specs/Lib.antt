@@ -1,0 +1,3 @@
+pub mod Scale
+pub mod Laws
+pub mod Cases

@@ -1,0 +1,44 @@
+use mathlib.Core.Path.{_≡_, ap}
+use borrow.Author.Tests.{ne-eqb}
+use Rattle.refusal_texts.specs.Texts.{thirdTexts, noText}
+use Rattle.refusal_texts.proofs.Copies.{worded}
+use borrow.Author.Needs.{needs}
+use Rattle.refusal_texts.proofs.third_texts.Statement.{statement}
+use Rattle.refusal_texts.proofs.third_texts.Tie as tie
+
+returns : tie.Need-returns
+unfolding thirdTexts
+returns c = worded (c .before .before .before .before .before .before .before .args .out .now) (ap thirdTexts (c .before .before .before .before .before .match .keys1)) (c .before .before .put .ensures)
+
+returns-2 : tie.Need-returns-2
+unfolding thirdTexts
+returns-2 c = worded (c .before .before .before .before .before .before .before .args .out .now) (ap thirdTexts (c .before .before .before .before .before .match .keys2)) (c .before .before .put2 .ensures)
+
+returns-3 : tie.Need-returns-3
+unfolding thirdTexts
+returns-3 c = worded (c .before .before .before .before .before .before .before .args .out .now) (ap thirdTexts (c .before .before .before .before .before .match .keys3)) (c .before .before .put3 .ensures)
+
+returns-4 : tie.Need-returns-4
+unfolding thirdTexts
+returns-4 c = worded (c .before .before .before .before .before .before .before .args .out .now) (ap thirdTexts (c .before .before .before .before .before .match .keys4)) (c .before .before .put4 .ensures)
+
+returns-5 : tie.Need-returns-5
+unfolding thirdTexts
+returns-5 c = worded (c .before .before .before .before .before .before .before .args .out .now) (ap thirdTexts (c .before .before .before .before .before .match .keys5)) (c .before .before .put5 .ensures)
+
+returns-6 : tie.Need-returns-6
+unfolding thirdTexts
+returns-6 c = worded (c .before .before .before .before .before .before .before .args .out .now) (ap thirdTexts (c .before .before .before .before .before .match .keys6)) (c .before .before .put6 .ensures)
+
+returns-7 : tie.Need-returns-7
+unfolding thirdTexts
+returns-7 c = let r = c .before .before .before .before .before .match .rest in let e : thirdTexts (c .before .before .before .before .before .before .before .args .number) ≡ noText = simp (ne-eqb _ _ (r .1), ne-eqb _ _ (r .0 .1), ne-eqb _ _ (r .0 .0 .1), ne-eqb _ _ (r .0 .0 .0 .1), ne-eqb _ _ (r .0 .0 .0 .0 .1), ne-eqb _ _ (r .0 .0 .0 .0 .0 .1)) in worded (c .before .before .before .before .before .before .before .args .out .now) e (c .before .before .put7 .ensures)
+
+pub third-texts-spec : {M : Type 1} → statement M
+third-texts-spec =
+    tie.close
+    (tie.spec (λ c. search needs) (λ c κs. search needs) (λ c. search needs) (λ c κs. search needs) (λ c. search needs)
+    (λ c κs. search needs) (λ c. search needs) (λ c κs. search needs) (λ c. search needs) (λ c κs. search needs) (λ c. search needs)
+    (λ c κs. search needs) (λ c. search needs) (λ c κs. search needs) (λ c. search needs) returns (λ c. search needs) returns-2
+    (λ c. search needs) returns-3 (λ c. search needs) returns-4 (λ c. search needs) returns-5 (λ c. search needs) returns-6
+    (λ c. search needs) returns-7)

@@ -1,0 +1,3 @@
+pub mod Standings
+pub mod Theorem
+pub mod Cases
