@@ -1,0 +1,222 @@
+// The pool that clips read, from a file: a WAV of one channel of 32-bit floats, or such samples and nothing else. For programs: of what a call of C's reads no contract can speak.
+ghost use mathlib.Core.Path.{_≡_};
+ghost use Prim.Native.Nat.{_≤_};
+ghost use lib.ListN.{length};
+use tape::fields;
+
+// Room for the longest pool.
+pub fn room() -> [f32; 262144]
+    ensures { λ r. ⌜ 262144 ≡ length r ⌝ }
+{
+    [0.0; 262144]
+}
+
+// Where the samples stand in a file, and how many bytes they take; `known` where they are samples of one channel of 32-bit floats.
+struct Place {
+    from: usize,
+    size: usize,
+    known: bool,
+}
+
+fn nowhere() -> Place {
+    Place {
+        from: 0,
+        size: 0,
+        known: false,
+    }
+}
+
+// Whether a format is one channel of IEEE floats of 32 bits, by its number or, in the long form, by that of its kind.
+fn is_mono_float(head: &[u8], at: usize) -> bool {
+    if 65536 < at {
+        return false;
+    }
+    let tag = fields::word(head, at, 2);
+    let kind = fields::word(head, at + 24, 2);
+    if fields::word(head, at + 2, 2) != 1 {
+        return false;
+    }
+    if fields::word(head, at + 14, 2) != 32 {
+        return false;
+    }
+    if tag == 3 {
+        return true;
+    }
+    tag == 0xFFFE && kind == 3
+}
+
+// The chunk `data` of a WAV, among the file's first bytes; a file that is no RIFF is all samples.
+fn find_samples(head: &[u8]) -> Place {
+    if fields::word32(head, 0) != 0x4646_4952 {
+        return Place {
+            from: 0,
+            size: usize::MAX,
+            known: true,
+        };
+    }
+    let mut at: usize = 12;
+    let mut known = false;
+    let mut turns = head.len();
+    while turns > 0 {
+        turns = turns - 1;
+        if head.len() <= at {
+            return nowhere();
+        }
+        if 65536 < at {
+            return nowhere();
+        }
+        let name = fields::word32(head, at);
+        let size = fields::word32(head, at + 4) as usize;
+        if name == 0x6174_6164 {
+            return Place {
+                from: at + 8,
+                size,
+                known,
+            };
+        }
+        if name == 0x2074_6D66 {
+            known = is_mono_float(head, at + 8);
+        }
+        at = at + 8 + size + size % 2;
+    }
+    nowhere()
+}
+
+// How many samples a pool has; `good` where it can be used.
+pub struct Loaded {
+    pub count: usize,
+    pub good: bool,
+}
+
+fn refused(text: &[u8]) -> Loaded {
+    io::write_all(2, b"POOL: ");
+    io::write_all(2, text);
+    Loaded {
+        count: 0,
+        good: false,
+    }
+}
+
+fn least(a: usize, b: usize) -> usize
+    ensures { λ r. ⌜ r ≤ a ⌝ }
+{
+    if a < b { a } else { b }
+}
+
+// The bytes at hand, those that are still to come, the samples so far, and what ends it: nothing yet (0), the end (1), a read that fails (2), too many samples (3).
+struct Filling {
+    have: usize,
+    left: usize,
+    count: usize,
+    ended: u64,
+}
+
+fn ends(s: Filling, ended: u64) -> Filling {
+    Filling {
+        have: s.have,
+        left: s.left,
+        count: s.count,
+        ended,
+    }
+}
+
+// The samples of the first n bytes; how many.
+fn put(buf: &[u8], n: usize, pool: &mut [f32], count: usize) -> usize {
+    if buf.len() < n {
+        return 0;
+    }
+    recording::put_samples(&buf[..n], pool, count)
+}
+
+// Moves on by the bytes at hand, and reads more.
+fn step(fd: i32, buf: &mut [u8], pool: &mut [f32], s: Filling) -> Filling {
+    let n = least(s.have, s.left);
+    let count = s.count;
+    let k = put(buf, n, pool, count);
+    if n / 4 != k {
+        return ends(s, 3);
+    }
+    if pool.len() < count {
+        return ends(s, 3);
+    }
+    if pool.len() - count < k {
+        return ends(s, 3);
+    }
+    let total = count + k;
+    if s.left < 4 * k {
+        return ends(s, 2);
+    }
+    let left = s.left - 4 * k;
+    let rest = tape_input::shift(buf, 4 * k, s.have);
+    let came = tape_input::read_on(fd, buf, rest);
+    if came.failed {
+        return ends(s, 2);
+    }
+    if buf.len() < rest {
+        return ends(s, 2);
+    }
+    if buf.len() - rest < came.count {
+        return ends(s, 2);
+    }
+    let have = rest + came.count;
+    let mut ended: u64 = 0;
+    if came.count == 0 {
+        ended = 1;
+    }
+    if left < 4 {
+        ended = 1;
+    }
+    Filling {
+        have,
+        left,
+        count: total,
+        ended,
+    }
+}
+
+// All the samples of the file, whose bytes at hand are samples from the first on.
+fn fill(fd: i32, buf: &mut [u8], pool: &mut [f32], from: Filling) -> Filling {
+    let mut s = from;
+    let mut turns = u64::MAX;
+    while turns > 0 {
+        turns = turns - 1;
+        s = step(fd, buf, pool, s);
+        if s.ended != 0 {
+            return s;
+        }
+    }
+    s
+}
+
+fn answer(s: Filling) -> Loaded {
+    if s.ended == 1 {
+        return Loaded {
+            count: s.count,
+            good: true,
+        };
+    }
+    if s.ended == 3 {
+        return refused(b"more samples than there is room for\n");
+    }
+    refused(b"cannot be read\n")
+}
+
+// Puts the samples of a file into `pool`. What is wrong is said on standard error.
+pub fn load(fd: i32, pool: &mut [f32]) -> Loaded {
+    let mut buf = io::large_buffer();
+    let n = io::read_full(fd, &mut buf);
+    let p = find_samples(&buf[..n]);
+    if !p.known {
+        return refused(
+            b"neither samples of 32-bit floats nor a WAV of one channel of them (sox IN -c 1 -e float -b 32 OUT.wav makes one)\n",
+        );
+    }
+    let have = tape_input::shift(&mut buf, p.from, n);
+    let s = Filling {
+        have,
+        left: p.size,
+        count: 0,
+        ended: 0,
+    };
+    answer(fill(fd, &mut buf, pool, s))
+}

@@ -1,0 +1,56 @@
+// A tape read in pieces through a buffer: for programs that read a tape of any length. `read_on` makes a call of C's, of which no contract can say what came.
+ghost use mathlib.Core.Path.{_≡_};
+ghost use mathlib.Core.Bool.{cond, false};
+ghost use mathlib.Core.List.{_++_};
+ghost use Prim.Native.Nat.{_+_, _-_, _≤_, min};
+ghost use lib.Dec.{ltb, leb};
+ghost use lib.ListN.{length, take, drop};
+
+// Moves the bytes from `at` up to `have` to the front, and answers how many they are.
+pub fn shift(buf: &mut [u8], at: usize, have: usize) -> usize
+    ensures count { λ r. ⌜ r ≡ min have (length (now (buf .entry))) - at ⌝ }
+    ensures lent { λ r. ⌜ now (buf .exit) ≡ take r (drop at (now (buf .entry))) ++ drop r (now (buf .entry)) ⌝ }
+{
+    let mut to: usize = 0;
+    let mut from = at;
+    while from < have {
+        if buf.len() <= from {
+            return to;
+        }
+        buf[to] = buf[from];
+        to = to + 1;
+        from = from + 1;
+    }
+    to
+}
+
+// How many bytes came behind the first `have`, none at the end; `failed` where they cannot be read.
+pub struct Came {
+    pub count: usize,
+    pub failed: bool,
+}
+
+// Reads once, behind the first `have` bytes.
+pub fn read_on(fd: i32, buf: &mut [u8], have: usize) -> Came
+    ensures { λ r. ⌜ (have ≤ length (now (buf .entry)) → have + r .count ≤ length (now (buf .entry))) ⌝ }
+{
+    if buf.len() < have {
+        return Came {
+            count: 0,
+            failed: true,
+        };
+    }
+    let got = libc::read(fd, &mut buf[have..]);
+    let n = io::count(got, &buf[have..]);
+    Came {
+        count: n,
+        failed: got < 0,
+    }
+}
+
+// Whether `have` bytes hold a whole record of any kind from `at` on: reading one needs no more than 47 (tape, specs/Window).
+pub fn enough(at: usize, have: usize) -> bool
+    ensures { λ r. ⌜ r ≡ cond (ltb have at) false (leb 47 (have - at)) ⌝ }
+{
+    if have < at { false } else { 47 <= have - at }
+}

@@ -1,0 +1,4 @@
+pub mod Header
+pub mod CasesOfHeaders
+pub mod Frames
+pub mod Interleaved
