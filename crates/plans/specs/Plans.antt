@@ -2,7 +2,7 @@
 use mathlib.Core.Bool.{Bool, true, false, _&&_, cond}
 use Prim.Native.Nat.{ℕ, _+_, _*_, _^_, _%_, min}
 use lib.Dec.{ltb, leb, eqb}
-use lib.Ieee.{Float}
+use lib.Ieee.{Float, eq}
 use Rattle.event.specs.declared.Event.{Event}
 use Rattle.event.specs.declared.ReplayMode.{ReplayMode}
 use Rattle.event.specs.declared.ReplayMode.the-variants.{All, None}
@@ -12,15 +12,16 @@ use Rattle.lists.specs.declared.EditMap.{EditMap}
 use Rattle.lists.specs.declared.FoundEdit.{FoundEdit}
 use Rattle.lists.specs.declared.FoundEdit.the-variants.{Stored, Missing}
 use Rattle.lists.specs.Edits.{foundEdit, removed}
-use Rattle.refusals.specs.Refusals.{pushRefusal, tickRefusal, processRefusal}
+use Rattle.refusals.specs.Refusals.{pushRefusal, editLimits, tickRefusal, processRefusal, rateRefusal}
 use Rattle.tape.specs.declared.reader.PushRecord.{PushRecord}
+use Rattle.tape.specs.declared.reader.EditRecord.{EditRecord}
 use Rattle.tape.specs.declared.reader.Call.{Call}
 use Rattle.tape.specs.declared.reader.Call.the-variants as Call
 use Rattle.plans.specs.declared.Clock.{Clock}
 use Rattle.plans.specs.declared.Step.{Step}
 use Rattle.plans.specs.declared.Taken.{Taken}
 use Rattle.plans.specs.declared.Plan.{Plan}
-use Rattle.plans.specs.declared.Plan.the-variants.{Refuse, Sound, Wait, Render, Full, Other}
+use Rattle.plans.specs.declared.Plan.the-variants.{Answer, Sound, Wait, Render, Full, Amend, Clear, Rewind, Rate, Create}
 
 -- ---- a push
 
@@ -31,7 +32,7 @@ entersBy e θ = cond (e .«start_time» <ᶠ θ) (Sound e) (Wait e)
 unfoldable pub pushPlan : PushRecord → (lasts from until : Float) → Clock → Plan
 pushPlan p lasts from until c =
     let no = pushRefusal (p .«start_time») (p .«end_time») lasts (p .«fade_in») (p .«fade_out») (p .source) (p .gain) (c .held) (c .next) in
-    cond (eqb no 0) (entersBy (newEvent from until (p .«fade_in») (p .«fade_out») (p .«fade_ease») (p .source) (p .gain) (c .next)) (c .threshold)) (Refuse no)
+    cond (eqb no 0) (entersBy (newEvent from until (p .«fade_in») (p .«fade_out») (p .«fade_ease») (p .source) (p .gain) (c .next)) (c .threshold)) (Answer no)
 
 -- ---- a tick or block
 
@@ -64,29 +65,44 @@ unfolding stepPlan
 tickPlan c room =
     let k = min (c .outputs) 8 in
     let no = tickRefusal k (c .outputs) (c .time) (c .duration) in
-    cond (eqb no 0) (stepPlan room (stepOf true 1 k 1 (c .time +ᵈ c .duration) c)) (Refuse no)
+    cond (eqb no 0) (stepPlan room (stepOf true 1 k 1 (c .time +ᵈ c .duration) c)) (Answer no)
 
 unfoldable pub blockPlan : (size : ℕ) → Clock → (room : ℕ) → Plan
 unfolding stepPlan
 blockPlan n c room =
     let k = min (c .outputs) 8 in
     let no = processRefusal n (64 * k) (c .outputs) (c .time) (c .duration) in
-    cond (eqb no 0) (stepPlan room (stepOf false n k 64 (c .time +ᵈ c .duration ×ᵈ whole n) c)) (Refuse no)
+    cond (eqb no 0) (stepPlan room (stepOf false n k 64 (c .time +ᵈ c .duration ×ᵈ whole n) c)) (Answer no)
+
+-- ---- an edit, a reset and a rate
+
+unfoldable pub editPlan : EditRecord → (until : Float) → Plan
+editPlan p until =
+    let no = editLimits (p .«end_time») (p .«fade_out») in
+    cond (eqb no 0) (Amend (p .id) (record { «end_time» = until; «fade_out» = p .«fade_out» })) (Answer no)
+
+abbrev pub resetPlan : ReplayMode → Plan
+resetPlan All = Rewind
+resetPlan None = Clear
+
+-- the rate that the engine has changes nothing
+unfoldable pub ratePlan : (rate : Float) → Clock → Plan
+ratePlan r c = cond (eqb (rateRefusal r) 0) (cond (eq (c .rate) r) (Answer 0) (Rate r)) (Answer (rateRefusal r))
 
 -- ---- a record
 
 unfoldable pub planOf : Call → Clock → (room : ℕ) → Plan
-unfolding pushPlan tickPlan blockPlan
+unfolding pushPlan tickPlan blockPlan editPlan ratePlan
 planOf (Call.Push p) c room = pushPlan p (p .«end_time» -ᵈ p .«start_time») (p .«start_time») (p .«end_time») c
 planOf (Call.PushRelative p) c room = pushPlan p (p .«end_time» -ᵈ p .«start_time») (p .«start_time» +ᵈ c .time) (p .«end_time» +ᵈ c .time) c
 planOf (Call.PushDuration p) c room = pushPlan p (p .«start_time» +ᵈ p .«end_time» -ᵈ p .«start_time») (p .«start_time») (p .«start_time» +ᵈ p .«end_time») c
 planOf Call.Tick c room = tickPlan c room
 planOf (Call.Process n) c room = blockPlan n c room
-planOf (Call.Create k m n) c room = Other
-planOf (Call.Edit p) c room = Other
-planOf (Call.EditRelative p) c room = Other
-planOf Call.Reset c room = Other
-planOf (Call.SetSampleRate r) c room = Other
+planOf (Call.Create k m n) c room = Create
+planOf (Call.Edit p) c room = editPlan p (p .«end_time»)
+planOf (Call.EditRelative p) c room = editPlan p (c .time +ᵈ p .«end_time»)
+planOf Call.Reset c room = resetPlan (c .mode)
+planOf (Call.SetSampleRate r) c room = ratePlan r c
 
 -- ---- the beginning of a tick or block
 
@@ -115,3 +131,8 @@ lesserChild c n left right = cond (ltb (c + 1) n && earlier right left) (c + 1) 
 -- a corrupt count holds nothing
 abbrev pub isWithin : (i n : ℕ) → Bool
 isWithin i n = ltb i n && leb n 256
+
+-- ---- a reset in mode None
+
+abbrev pub allGone : (let-go past ready active : ℕ) → ℕ
+allGone n past ready active = (n + (min past 256 + (min ready 256 + min active 256))) % 2 ^ 64

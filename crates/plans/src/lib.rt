@@ -2,21 +2,26 @@
 ghost use mathlib.Core.Path.{_≡_};
 ghost use Prim.Native.Nat.{_≤_};
 ghost use lib.ListN.{getD, set};
-ghost use Rattle.floats.specs.Arithmetic.{_+ˢ_, zeroᶠ};
-ghost use Rattle.plans.specs.Plans.{pushPlan, releasesIn, stepOf, stepPlan, tickPlan, blockPlan, planOf, letGoAfter, pastAfter, startsBefore, takenFrom, lesserChild, isWithin};
+ghost use Rattle.floats.specs.Arithmetic.{_+ˢ_, zeroᶠ, -∞};
+ghost use Rattle.plans.specs.Plans.{pushPlan, releasesIn, stepOf, stepPlan, tickPlan, blockPlan, editPlan, resetPlan, ratePlan, planOf, letGoAfter, pastAfter, startsBefore, takenFrom, lesserChild, isWithin, allGone};
 ghost use Rattle.plans.specs.Sounding.{soundedEvent, soundedRow, writtenTo};
+use event::Edit;
 use event::Event;
 use event::EventId;
 use event::Placings;
 use event::ReplayMode;
+use event::Unit;
 use lists::EditMap;
 use lists::FoundEdit;
 use mixing::Span;
+use refusals::edit_limits;
 use refusals::process_refusal;
 use refusals::push_refusal;
+use refusals::rate_refusal;
 use refusals::tick_refusal;
 use runs::least;
 use tape::reader::Call;
+use tape::reader::EditRecord;
 use tape::reader::PushRecord;
 
 // What a plan needs of an engine: its times, channels and mode, how many events it holds (at most 256), and the next number.
@@ -46,14 +51,19 @@ pub struct Step {
     pub duration: f64,
 }
 
-// A call that is refused, with its number; a push to the sounding list; a push to the heap; a tick or block; one whose samples do not fit; any other call, which takes the engine by value.
+// A call that leaves the engine as it is, with its refusal or 0; a push to the sounding list; a push to the heap; a tick or block; one whose samples do not fit; an edit with its end as it is to be;
+// a reset in mode None; one in mode All; another rate; and a creation.
 pub enum Plan {
-    Refuse(u64),
+    Answer(u64),
     Sound(Event),
     Wait(Event),
     Render(Step),
     Full,
-    Other,
+    Amend(EventId, Edit),
+    Clear,
+    Rewind,
+    Rate(f64),
+    Create,
 }
 
 // A push, as given from its start to its end (or for that duration), which `lasts` so long; the event is to last from `from` to `until`.
@@ -73,7 +83,7 @@ fn push_plan(p: PushRecord, lasts: f64, from: f64, until: f64, clock: Clock) -> 
         clock.next,
     );
     if no != 0 {
-        return Plan::Refuse(no);
+        return Plan::Answer(no);
     }
     let ease = p.fade_ease;
     let id = EventId(clock.next);
@@ -130,7 +140,7 @@ fn tick_plan(clock: Clock, room: usize) -> Plan
     let channels = least(clock.outputs, 8);
     let no = tick_refusal(channels, clock.outputs, clock.time, clock.duration);
     if no != 0 {
-        return Plan::Refuse(no);
+        return Plan::Answer(no);
     }
     step_plan(
         true,
@@ -156,10 +166,51 @@ fn block_plan(size: usize, clock: Clock, room: usize) -> Plan
         clock.duration,
     );
     if no != 0 {
-        return Plan::Refuse(no);
+        return Plan::Answer(no);
     }
     let end = clock.time + clock.duration * std::num::nearest_u64_to_f64(size as u64);
     step_plan(false, size, channels, 64, end, clock, room)
+}
+
+// `end` is the end as given, `until` the end as it is to be.
+fn edit_plan(p: EditRecord, until: f64) -> Plan
+    ensures { λ r. ⌜ r ≡ editPlan p until ⌝ }
+{
+    let no = edit_limits(p.end_time, p.fade_out);
+    if no != 0 {
+        return Plan::Answer(no);
+    }
+    let id = p.id;
+    Plan::Amend(
+        id,
+        Edit {
+            end_time: until,
+            fade_out: p.fade_out,
+        },
+    )
+}
+
+fn reset_plan(mode: ReplayMode) -> Plan
+    ensures { λ r. ⌜ r ≡ resetPlan mode ⌝ }
+{
+    match mode {
+        ReplayMode::All => Plan::Rewind,
+        ReplayMode::None => Plan::Clear,
+    }
+}
+
+// The rate that the engine has changes nothing.
+fn rate_plan(rate: f64, clock: Clock) -> Plan
+    ensures { λ r. ⌜ r ≡ ratePlan rate clock ⌝ }
+{
+    let no = rate_refusal(rate);
+    if no != 0 {
+        return Plan::Answer(no);
+    }
+    if clock.rate == rate {
+        return Plan::Answer(0);
+    }
+    Plan::Rate(rate)
 }
 
 // `room` is how many bytes of the output are free.
@@ -191,11 +242,14 @@ pub fn plan_of(call: Call, clock: Clock, room: usize) -> Plan
             channels: _,
             mode: _,
             first: _,
-        } => Plan::Other,
-        Call::Edit(_) => Plan::Other,
-        Call::EditRelative(_) => Plan::Other,
-        Call::Reset => Plan::Other,
-        Call::SetSampleRate(_) => Plan::Other,
+        } => Plan::Create,
+        Call::Edit(p) => edit_plan(p, p.end_time),
+        Call::EditRelative(p) => edit_plan(p, clock.time + p.end_time),
+        Call::Reset => {
+            let mode = clock.mode;
+            reset_plan(mode)
+        }
+        Call::SetSampleRate(rate) => rate_plan(rate, clock),
     }
 }
 
@@ -273,6 +327,23 @@ pub fn within(i: usize, n: usize) -> bool
     i < n
 }
 
+// ---- a reset in mode None
+
+// How many were let go once the finished, the waiting and the sounding are.
+pub fn gone_all(let_go: u64, past: usize, ready: usize, active: usize) -> u64
+    ensures { λ r. ⌜ r ≡ allGone «let_go» past ready active ⌝ }
+{
+    let n = least(past, 256) + (least(ready, 256) + least(active, 256));
+    std::num::wrapping_add_u64(let_go, n as u64)
+}
+
+pub fn lowest() -> f64
+    ensures { λ r. ⌜ r ≡ -∞ ⌝ }
+{
+    let top: f64 = 1.0 / 0.0;
+    -top
+}
+
 // ---- samples
 
 fn first(row: &[f32]) -> f32
@@ -292,14 +363,15 @@ fn add_first(row: &mut [f32], x: f32)
     }
 }
 
-// Adds an event's samples in a tick or block to the row; the event afterwards.
-pub fn sound(event: Event, step: Step, pool: &[f32], row: &mut [f32]) -> Event
-    ensures { λ r. ⌜ (r ≡ soundedEvent step event) × (now (row .exit) ≡ soundedRow (now (pool .entry)) step (now (row .entry)) event) ⌝ }
+// Adds an event's samples in a tick or block to the row; its source afterwards.
+pub fn sound(event: Event, step: Step, pool: &[f32], row: &mut [f32]) -> Unit
+    ensures { λ r. ⌜ (r ≡ soundedEvent step event .unit) × (now (row .exit) ≡ soundedRow (now (pool .entry)) step (now (row .entry)) event) ⌝ }
 {
     if step.tick {
         let x = mixing::tick_sample(event, step.time, pool);
         add_first(row, x);
-        return mixing::after_tick(event);
+        let unit = event.unit;
+        return unit.advance();
     }
     let span = Span {
         size: step.size,
@@ -310,7 +382,8 @@ pub fn sound(event: Event, step: Step, pool: &[f32], row: &mut [f32]) -> Event
     };
     let none = Placings::new();
     let after = mixing::process_event(event, span, pool, row, none);
-    after.event
+    let event = after.event;
+    event.unit
 }
 
 pub fn write(step: Step, row: &[f32], samples: &mut [f32])

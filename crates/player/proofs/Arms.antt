@@ -1,28 +1,47 @@
 -- The arms of the record loop: what each leaves in the engine's fields is what its plan means. Assumes nothing.
 use mathlib.Core.Bool.{Bool, true, false, _&&_, cond, true≢false, false≢true}
-use mathlib.Core.List.{List, _∷_}
+use mathlib.Core.List.{List, [], _∷_}
 use mathlib.Core.Path.{_≡_, refl, sym, ap, _∙_, subst}
-use Prim.Native.Nat.{ℕ, zero, suc, _+_, _*_, _%_, _^_, _≤_, _<_, min}
+use Prim.Native.Nat.{ℕ, zero, suc, _+_, _-_, _*_, _%_, _^_, _≤_, _<_, min}
 use native.Mathlib.Omega.{arith}
 use native.Mathlib.Decide.{decLt}
 use borrow.Author.Tests.{lt-ltb, le-leb, ltb-true, leb-true}
 use lib.Dec.{ltb, leb}
 use lib.Ieee.{Float}
 use lib.ListN.{getD, set, take, replicate}
+use Rattle.event.specs.declared.Edit.{Edit}
 use Rattle.event.specs.declared.Event.{Event}
-use Rattle.event.specs.Events.{blank, earlier}
-use Rattle.floats.specs.Arithmetic.{_<ᶠ_}
+use Rattle.event.specs.declared.MixOrder.the-variants.{Forward}
+use Rattle.event.specs.declared.EventId.{EventId}
+use Rattle.event.specs.declared.ReplayMode.the-variants.{None}
+use Rattle.event.specs.declared.Unit.{Unit as SourceUnit}
+use Rattle.event.specs.Events.{blank, earlier, editedBy, withUnit}
+use Rattle.event.specs.Runs.{steps}
+use Rattle.event.specs.Sources.{advanced, advancedBy, source-stays}
+use Rattle.floats.specs.Arithmetic.{_<ᶠ_, zeroᶠ, -∞}
+use Rattle.ledger.specs.TickSamples.{afterTick}
+use Rattle.ledger.specs.BlockSamples.{firstPlace, endPlace, afterBlock}
+use Rattle.lists.specs.declared.ActiveMap.{ActiveMap}
+use Rattle.lists.specs.declared.EditMap.{EditMap}
+use Rattle.lists.specs.declared.Found.{Found}
+use Rattle.lists.specs.declared.Found.the-variants.{At, Nothing}
+use Rattle.lists.specs.Search.{seek}
+use Rattle.lists.specs.Index.{foundId, isId, noId}
 use Rattle.lists.specs.declared.FoundEdit.{FoundEdit}
 use Rattle.lists.specs.declared.FoundEdit.the-variants.{Stored, Missing}
-use Rattle.lists.specs.Edits.{foundEdit}
+use Rattle.lists.specs.Edits.{foundEdit, stored}
 use Rattle.ready.specs.Sift.{child}
 use Rattle.sequencer.specs.declared.Sequencer.{Sequencer}
-use Rattle.sequencer.specs.Parts.{withReady, withActive, withPast, withEdits, withTimes, withNext, withLetGo}
+use Rattle.sequencer.specs.Parts.{withReady, withActive, withPast, withEdits, withTimes, withNext, withLetGo, withSounding}
 use Rattle.sequencer.specs.Moves.{pushedReady, pushedActive, readyToActive, activeToPast}
+use Rattle.sequencer.specs.Edits.{indexOf, changedBy, changed}
+use Rattle.sequencer.specs.Resets.{emptiedLists, resetBy, resets}
 use Rattle.sequencer.specs.Turns.{Activating, activated-none, activated-beyond, activated-late, Taking, taking-missing, taking-stored, Finishing, finished-end, finished-beyond}
+use Rattle.sequencer.specs.Steady.{Passing, passing-on}
 use Rattle.plans.specs.declared.Step.{Step}
 use Rattle.plans.specs.declared.Taken.{Taken}
-use Rattle.plans.specs.Plans.{startsBefore, takenBy, takenFrom, lesserChild, isWithin}
+use Rattle.plans.specs.Plans.{startsBefore, takenBy, takenFrom, lesserChild, isWithin, allGone}
+use Rattle.plans.specs.Sounding.{spanIn, soundedEvent}
 use Rattle.player.proofs.Meaning.{begunIn, advancedIn}
 
 -- ---- pushes
@@ -106,7 +125,92 @@ within-false limit s i r h w = go (decLt i (s .«active_len»)) (decLt 256 (s .�
     go (yes a) (yes b) = finished-beyond limit s i r b w
     go (yes a) (no b) = absurd (true≢false (sym (all a (omega arith)) ∙ h))
 
+-- ---- edits, and a reset in mode None
+
+-- what is found stands in the array
+abbrev Inside : Found → Type 0
+Inside (At i) = i < 256
+Inside Nothing = Unit {0}
+
+seek-inside : (k : EventId) (f : ℕ) (xs : List EventId) (i : ℕ) → i + f ≤ 256 → Inside (seek noId (isId k) f xs i)
+unfolding seek
+seek-inside k zero xs i h = tt
+seek-inside k (suc f) xs i h = go (isId k (getD xs i noId)) (seek-inside k f xs (suc i) (omega arith))
+  where
+    go : (b : Bool) → Inside (seek noId (isId k) f xs (suc i)) → Inside (cond b (At i) (seek noId (isId k) f xs (suc i)))
+    go true r = omega arith
+    go false r = r
+
+pub found-inside : (a : ActiveMap) (k : EventId) (i : ℕ) → foundId a k ≡ At i → i < 256
+unfolding foundId
+found-inside a k i h = subst Inside h (go (leb (a .len) 256) (leb-true (a .len) 256))
+  where
+    go : (b : Bool) → (b ≡ true → a .len ≤ 256) → Inside (cond b (seek noId (isId k) (a .len) (a .ids) 0) Nothing)
+    go true l = seek-inside k (a .len) (a .ids) 0 (omega (arith, l refl))
+    go false l = tt
+
+module _ (s : Sequencer) (k : EventId) (d : Edit) where
+  pub amended-active : {i : ℕ} {e : Event} → foundId (indexOf s) k ≡ At i → e ≡ editedBy d (getD (s .active) i blank) → withSounding s (set (s .active) i e) ≡ changed s k d .sequencer
+  unfolding changed changedBy
+  amended-active h g = rw (h, g)
+
+  pub amended-past : foundId (indexOf s) k ≡ Nothing → (d .«end_time» <ᶠ s .«active_threshold») ≡ true → s ≡ changed s k d .sequencer
+  unfolding changed changedBy
+  amended-past h g = rw (h, g)
+
+  pub amended-stored : {m : EditMap} → foundId (indexOf s) k ≡ Nothing → (d .«end_time» <ᶠ s .«active_threshold») ≡ false → m ≡ stored (s .«edit_map») k d → withEdits s m ≡ changed s k d .sequencer
+  unfolding changed changedBy
+  amended-stored h g q = rw (h, g, q)
+
+pub cleared : (s : Sequencer) {l : ℕ} {θ : Float} → l ≡ allGone (s .«let_go») (s .«past_len») (s .«ready_len») (s .«active_len») → θ ≡ -∞ → s .mode ≡ None
+    → withTimes (emptiedLists s l) zeroᶠ θ ≡ resets s
+unfolding resetBy
+cleared s p q m = (λ i. withTimes (emptiedLists s (p i)) zeroᶠ (q i)) ∙ sym (ap (resetBy s) m)
+
 -- ---- a tick or block
+
+-- a source moves on: its value and its place are stored, one after the other
+abbrev pub withValue : (v : Float) → Event → Event
+withValue v e = withUnit (record { source = e .unit .source; value = v; place = e .unit .place }) e
+
+abbrev pub withPlace : (n : ℕ) → Event → Event
+withPlace n e = withUnit (record { source = e .unit .source; value = e .unit .value; place = n }) e
+
+twice : {A : Type 0} (f g : A → A) (d : A) (xs : List A) (i : ℕ) → set (set xs i (f (getD xs i d))) i (g (getD (set xs i (f (getD xs i d))) i d)) ≡ set xs i (g (f (getD xs i d)))
+twice f g d [] i = refl
+twice f g d (x ∷ xs) zero = refl
+twice f g d (x ∷ xs) (suc i) = ap (λ (r : List _). x ∷ r) (twice f g d xs i)
+
+moved-unit : (e : Event) (u : SourceUnit) → u .source ≡ e .unit .source → withUnit (record { source = e .unit .source; value = u .value; place = u .place }) e ≡ withUnit u e
+moved-unit e u h = λ i. withUnit (record { source = sym h i; value = u .value; place = u .place }) e
+
+-- only the source of an event moves
+sounded-unit : (b : Step) (e : Event) → withUnit (record { source = e .unit .source; value = soundedEvent b e .unit .value; place = soundedEvent b e .unit .place }) e ≡ soundedEvent b e
+unfolding afterBlock steps
+sounded-unit b e = go (b .tick) (ltb (firstPlace (spanIn b) e) (endPlace (spanIn b) e))
+  where
+    to : Bool → Bool → Event
+    to c d = cond c (afterTick e) (cond d (withUnit (advancedBy (e .unit) (endPlace (spanIn b) e - firstPlace (spanIn b) e)) e) e)
+
+    go : (c d : Bool) → withUnit (record { source = e .unit .source; value = to c d .unit .value; place = to c d .unit .place }) e ≡ to c d
+    go true d = moved-unit e (advanced (e .unit)) (source-stays (e .unit) 1)
+    go false true = moved-unit e (advancedBy (e .unit) (endPlace (spanIn b) e - firstPlace (spanIn b) e)) (source-stays (e .unit) (endPlace (spanIn b) e - firstPlace (spanIn b) e))
+    go false false = refl
+
+pub moved-on : (b : Step) (xs : List Event) (i : ℕ) {u : SourceUnit} → u ≡ soundedEvent b (getD xs i blank) .unit
+    → set (set xs i (withValue (u .value) (getD xs i blank))) i (withPlace (u .place) (getD (set xs i (withValue (u .value) (getD xs i blank))) i blank)) ≡ set xs i (soundedEvent b (getD xs i blank))
+moved-on b xs i {u} h =
+    twice (withValue (u .value)) (withPlace (u .place)) blank xs i
+    ∙ ap (λ (v : SourceUnit). set xs i (withUnit (record { source = getD xs i blank .unit .source; value = v .value; place = v .place }) (getD xs i blank))) h
+    ∙ ap (set xs i) (sounded-unit b (getD xs i blank))
+
+-- the pass goes on so
+pub passing-moved : (b : Step) {T : Type 0} {plus : T → Event → T} {z : T} {J : Sequencer} {m i : ℕ} {S : Sequencer} {x y : T} {u : SourceUnit} → u ≡ soundedEvent b (getD (S .active) i blank) .unit
+    → y ≡ plus x (getD (S .active) i blank) → i < m → Passing (soundedEvent b) plus z Forward J m i S x
+    → Passing (soundedEvent b) plus z Forward J m (i + 1)
+    (withSounding S (set (set (S .active) i (withValue (u .value) (getD (S .active) i blank))) i (withPlace (u .place) (getD (set (S .active) i (withValue (u .value) (getD (S .active) i blank))) i blank)))) y
+passing-moved b {T} {plus} {z} {J} {m} {i} {S} {x} {y} {u} h q l w =
+    subst (λ (xs : List Event). Passing (soundedEvent b) plus z Forward J m (i + 1) (withSounding S xs) y) (sym (moved-on b (S .active) i h)) (passing-on refl refl q l w)
 
 -- before the events start: n were let go, and k finished ones are left
 pub begun : (b : Step) (s : Sequencer) {n k : ℕ} → n ≡ begunIn b s .«let_go» → k ≡ begunIn b s .«past_len» → withTimes (withPast (withLetGo s n) (s .past) k) (s .time) (b .threshold) ≡ begunIn b s

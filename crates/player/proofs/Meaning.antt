@@ -1,45 +1,55 @@
 -- What a plan means: the fields that its arm leaves are those of the record's step (crate apply). Assumes nothing.
-use mathlib.Core.Bool.{Bool, true, false, not, _&&_, _||_, cond}
+use mathlib.Core.Bool.{Bool, true, false, not, _&&_, _||_, cond, false≢true}
 use mathlib.Core.List.{List, [], _∷_, _++_, append-assoc}
 use mathlib.Core.Path.{_≡_, refl, sym, ap, _∙_, subst}
 use Prim.Native.Nat.{ℕ, zero, suc, _+_, _*_, _/_, _%_, _^_, _≤_, _<_, min}
 use native.Mathlib.Omega.{arith}
-use borrow.Author.Tests.{ltb-true, ltb-false, leb-false, eqb-true, le-ltb}
+use borrow.Author.Tests.{ltb-true, ltb-false, leb-true, leb-false, eqb-true, le-ltb}
 use lib.Dec.{ltb, leb, eqb}
-use lib.Ieee.{Float}
+use lib.Ieee.{Float, eq}
 use lib.Ieee.Scale.{finite}
 use lib.ListN.{length, getD, set, take, drop, replicate, take-append-drop, length-append, length-take, length-drop, length-replicate}
 use lib.Seq.{length-take-le}
+use Rattle.event.specs.declared.Edit.{Edit}
 use Rattle.event.specs.declared.Event.{Event}
 use Rattle.event.specs.declared.MixOrder.the-variants.{Forward}
+use Rattle.event.specs.declared.EventId.{EventId}
 use Rattle.event.specs.declared.ReplayMode.{ReplayMode}
 use Rattle.event.specs.declared.ReplayMode.the-variants.{All, None}
 use Rattle.event.specs.Events.{blank, newEvent}
-use Rattle.floats.specs.Arithmetic.{_+ᵈ_, _-ᵈ_, _×ᵈ_, _<ᶠ_, _≤ᶠ_, _+ˢ_, zeroᶠ, halfᶠ, whole}
+use Rattle.floats.specs.Arithmetic.{_+ᵈ_, _-ᵈ_, _×ᵈ_, _<ᶠ_, _≤ᶠ_, _+ˢ_, zeroᶠ, oneᶠ, halfᶠ, whole}
 use Rattle.ledger.specs.Calls.{absolute, relative, byDuration}
-use Rattle.ledger.specs.Refusals.{within, withinEnd, finiteSource, statedEnd}
+use Rattle.ledger.specs.Refusals.{within, withinEnd, finiteSource, statedEnd, editEnd}
 use Rattle.ledger.specs.Steps.{pushedTime}
 use Rattle.ledger.specs.TickSamples.{tickSample, afterTick}
 use Rattle.ledger.specs.BlockSamples.{overlay}
 use Rattle.mixing.specs.Blocks.{clearedPlaces}
-use Rattle.refusals.specs.Refusals.{pushRefusal, tickRefusal, processRefusal}
+use Rattle.lists.specs.declared.EditMap.{EditMap}
+use Rattle.lists.specs.declared.Found.{Found}
+use Rattle.lists.specs.declared.Found.the-variants.{At, Nothing}
+use Rattle.lists.specs.Index.{foundId}
+use Rattle.lists.specs.Edits.{placed, foundAt, foundEdit, storedAt, stored}
+use Rattle.refusals.specs.Refusals.{pushRefusal, roomless, noRoom, editLimits, editRefusal, tickRefusal, processRefusal, rateRefusal}
 use Rattle.sequencer.specs.declared.Sequencer.{Sequencer}
 use Rattle.sequencer.specs.declared.Outcome.{Outcome}
-use Rattle.sequencer.specs.Parts.{withPast, withTimes, withNext, withLetGo, withSounding}
+use Rattle.sequencer.specs.Parts.{withPast, withEdits, withTimes, withNext, withLetGo, withSounding}
 use Rattle.sequencer.specs.Moves.{pushedReady, pushedActive, pushedEvent, readyToActive, activeToPast, releasedPast, advanced}
+use Rattle.sequencer.specs.Edits.{indexOf, changedBy, changed, amended, edits}
+use Rattle.sequencer.specs.Resets.{resets, reRated, rates}
 use Rattle.sequencer.specs.Answers.{accepts, renders, refuses}
 use Rattle.sequencer.specs.Pushes.{admitted, pushesTo, pushes}
 use Rattle.sequencer.specs.Rendering.{Passed, passes, tickEnd, addTick, tickPass, renderedTick, renderedTickOut, ticks, tickOuts, blockEnd, spanOf, blockPass, renderedBlock, renderedPlaces, renderedBlockOut, blocks, blockOuts}
 use Rattle.tape.specs.declared.reader.PushRecord.{PushRecord}
+use Rattle.tape.specs.declared.reader.EditRecord.{EditRecord}
 use Rattle.tape.specs.declared.reader.Call.{Call}
 use Rattle.tape.specs.declared.reader.Call.the-variants as Call
 use Rattle.apply.specs.declared.Applied.{Applied}
-use Rattle.apply.specs.Applying.{silent, silentOf, soundingOf, lentTick, lentBlock, ticking, tickingOut, processing, processingOut, appliedTo, appliedOut}
+use Rattle.apply.specs.Applying.{refusalOf, silent, silentOf, soundingOf, lentTick, lentBlock, ticking, tickingOut, processing, processingOut, appliedTo, appliedOut}
 use Rattle.plans.specs.declared.Clock.{Clock}
 use Rattle.plans.specs.declared.Step.{Step}
 use Rattle.plans.specs.declared.Plan.{Plan}
-use Rattle.plans.specs.declared.Plan.the-variants.{Refuse, Sound, Wait, Render, Full, Other}
-use Rattle.plans.specs.Plans.{entersBy, pushPlan, releasesIn, stepOf, stepPlan, tickPlan, blockPlan, planOf, letGoAfter, pastAfter}
+use Rattle.plans.specs.declared.Plan.the-variants.{Answer, Sound, Wait, Render, Full, Amend, Clear, Rewind, Rate, Create}
+use Rattle.plans.specs.Plans.{entersBy, pushPlan, releasesIn, stepOf, stepPlan, tickPlan, blockPlan, editPlan, resetPlan, ratePlan, planOf, letGoAfter, pastAfter}
 use Rattle.plans.specs.Sounding.{soundedEvent, soundedRow, writtenTick, writtenBlock, writtenTo, length-overlay}
 use Rattle.player.specs.Records.{soundOf}
 use Rattle.player.proofs.Rolling.{sound-length}
@@ -96,12 +106,16 @@ pub record Renders (pool : List Float) (s : Sequencer) (a : Applied) (x o : List
   pub fits : 4 * (b .channels * b .size) ≤ room
 
 abbrev pub Means : (pool : List Float) → Sequencer → Applied → (x o : List Float) → (room : ℕ) → Plan → Type 0
-Means pool s a x o room (Refuse n) = (a ≡ silent s n) × (o ≡ x) × (n ≡ 1 → ⊥)
+Means pool s a x o room (Answer n) = (a ≡ silent s n) × (o ≡ x) × (n ≡ 1 → ⊥)
 Means pool s a x o room (Sound e) = (a ≡ silent (withNext (pushedActive s e) ((s .next + 1) % 2 ^ 64)) 0) × (o ≡ x) × (s .«active_len» < 256)
 Means pool s a x o room (Wait e) = (a ≡ silent (withNext (pushedReady s e) ((s .next + 1) % 2 ^ 64)) 0) × (o ≡ x) × (s .«ready_len» < 256)
 Means pool s a x o room (Render b) = Renders pool s a x o room b
 Means pool s a x o room Full = (a .refusal ≡ 1 → ⊥) × (room < length (soundOf a o))
-Means pool s a x o room Other = (a ≡ silent (a .sequencer) (a .refusal)) × (o ≡ x)
+Means pool s a x o room (Amend k d) = (a ≡ silent (changed s k d .sequencer) (a .refusal)) × (o ≡ x) × (a .refusal ≡ 1 → ⊥)
+Means pool s a x o room Clear = (a ≡ silent (resets s) 0) × (o ≡ x) × (s .mode ≡ None)
+Means pool s a x o room Rewind = (a ≡ silent (resets s) 0) × (o ≡ x)
+Means pool s a x o room (Rate r) = (a ≡ silent (reRated s r) 0) × (o ≡ x)
+Means pool s a x o room Create = (a ≡ silent (a .sequencer) (a .refusal)) × (o ≡ x)
 
 -- ---- refusals
 
@@ -185,9 +199,82 @@ module _ (pool : List Float) (s : Sequencer) (p : PushRecord) (lasts from until 
       into h true q = (ap (λ (t : Sequencer). silent (withNext t ((s .next + 1) % 2 ^ 64)) 0) (goes-active s event q), refl, omega arith)
       into h false q = (ap (λ (t : Sequencer). silent (withNext t ((s .next + 1) % 2 ^ 64)) 0) (goes-ready s event q), refl, omega arith)
 
-      go : (b : Bool) → eqb no 0 ≡ b → Means pool s (silentOf (cond b entered (refuses s no))) x x room (cond b (entersBy event (s .«active_threshold»)) (Refuse no))
+      go : (b : Bool) → eqb no 0 ≡ b → Means pool s (silentOf (cond b entered (refuses s no))) x x room (cond b (entersBy event (s .«active_threshold»)) (Answer no))
       go true q = into (push-room _ _ lasts _ _ p (clockOf s .held) (s .next) (eqb-true no 0 q)) (from <ᶠ s .«active_threshold») refl
       go false q = (refl, refl, push-never _ _ lasts _ _ p (clockOf s .held) (s .next))
+
+-- ---- an edit, a reset and a rate
+
+-- an edit that is carried out is not refused
+change-answers : (s : Sequencer) (k : EventId) (d : Edit) → refusalOf (changed s k d .answer) ≡ 0
+unfolding changed changedBy
+change-answers s k d = go (foundId (indexOf s) k) (d .«end_time» <ᶠ s .«active_threshold»)
+  where
+    go : (f : Found) (over : Bool) → refusalOf (changedBy s k d f over .answer) ≡ 0
+    go (At i) over = refl
+    go Nothing true = refl
+    go Nothing false = refl
+
+-- where there is no room for it, nothing changes
+no-room-same : (s : Sequencer) (k : EventId) (d : Edit) → noRoom (foundId (indexOf s) k) (s .«edit_map») (s .«active_threshold») k (d .«end_time») ≡ true → changed s k d .sequencer ≡ s
+unfolding changed changedBy noRoom roomless foundEdit stored
+no-room-same s k d = go (foundId (indexOf s) k) (d .«end_time» <ᶠ s .«active_threshold»)
+  where
+    m : EditMap
+    m = s .«edit_map»
+
+    kept : (f : Found) → roomless Nothing false (foundAt m f) (m .len) ≡ true → storedAt m (record { id = k; edit = d }) f ≡ m
+    kept (At i) h = absurd (false≢true h)
+    kept Nothing h = rw (le-ltb (m .len) 256 (leb-true 256 (m .len) h))
+
+    go : (f : Found) (over : Bool) → roomless f over (foundEdit m k) (m .len) ≡ true → changedBy s k d f over .sequencer ≡ s
+    go (At i) over h = absurd (false≢true h)
+    go Nothing true h = refl
+    go Nothing false h = ap (withEdits s) (kept (placed m k) h)
+
+module _ (pool : List Float) (s : Sequencer) (p : EditRecord) (until : Float) (x : List Float) (room : ℕ) where
+  amend : Edit
+  amend = record { «end_time» = until; «fade_out» = p .«fade_out» }
+
+  beyond : Bool
+  beyond = not (withinEnd (p .«end_time») && within (p .«fade_out»))
+
+  roomlessly : Bool
+  roomlessly = noRoom (foundId (indexOf s) (p .id)) (s .«edit_map») (s .«active_threshold») (p .id) until
+
+  edit-means : Means pool s (silentOf (amended s (p .id) (p .«end_time») until (p .«fade_out»))) x x room (editPlan p until)
+  unfolding amend beyond roomlessly amended editRefusal editPlan editLimits
+  edit-means = go beyond roomlessly refl
+    where
+      refusal : Bool → Bool → ℕ
+      refusal a b = cond a 8 (cond b 9 0)
+
+      go : (a b : Bool) → roomlessly ≡ b
+          → Means pool s (silentOf (cond (eqb (refusal a b) 0) (changed s (p .id) amend) (refuses s (refusal a b)))) x x room (cond (eqb (cond a 8 0) 0) (Amend (p .id) amend) (Answer (cond a 8 0)))
+      go true b q = (refl, refl, λ z. omega arith)
+      go false true q = (ap (λ (t : Sequencer). silent t 9) (sym (no-room-same s (p .id) amend q)), refl, λ z. omega arith)
+      go false false q = (refl, refl, λ z. let e = change-answers s (p .id) amend in omega arith)
+
+same-rate : (s : Sequencer) (r : Float) → eq (s .«sample_rate») r ≡ true → reRated s r ≡ s
+unfolding reRated
+same-rate s r h = rw h
+
+rate-never : (r : Float) → rateRefusal r ≡ 1 → ⊥
+unfolding rateRefusal
+rate-never r = never (not (oneᶠ ≤ᶠ r && r ≤ᶠ whole 1_000_000)) 2 0 (λ z. omega arith) (λ z. omega arith)
+
+rate-means : (pool : List Float) (s : Sequencer) (r : Float) (x : List Float) (room : ℕ) → Means pool s (silentOf (rates s r)) x x room (ratePlan r (clockOf s))
+unfolding rates ratePlan
+rate-means pool s r x room = go (eqb (rateRefusal r) 0) (eq (s .«sample_rate») r) refl
+  where
+    go : (a b : Bool) → eq (s .«sample_rate») r ≡ b → Means pool s (silentOf (cond a (accepts (reRated s r)) (refuses s (rateRefusal r)))) x x room (cond a (cond b (Answer 0) (Rate r)) (Answer (rateRefusal r)))
+    go true true q = (ap (λ (t : Sequencer). silent t 0) (same-rate s r q), refl, λ z. omega arith)
+    go true false q = (refl, refl)
+    go false b q = (refl, refl, rate-never r)
+
+reset-means : (pool : List Float) (s : Sequencer) (x : List Float) (room : ℕ) (m : ReplayMode) → s .mode ≡ m → Means pool s (silent (resets s) 0) x x room (resetPlan m)
+reset-means pool s x room All h = (refl, refl)
+reset-means pool s x room None h = (refl, refl, h)
 
 -- ---- a tick or block
 
@@ -305,7 +392,7 @@ module _ (pool : List Float) (s : Sequencer) (x : List Float) (room : ℕ) (long
 
       go : (c : Bool) → eqb tick-no 0 ≡ c
           → Means pool s (soundingOf (cond c (accepts (renderedTick Forward pool s)) (refuses s tick-no)) channels 1 1) x (cond c (replicate channels sum) (take channels x) ++ drop channels x) room
-          (cond c (stepPlan room b) (Refuse tick-no))
+          (cond c (stepPlan room b) (Answer tick-no))
       go true q =
           subst (λ (t : Sequencer). Means pool s (record { sequencer = t; refusal = 0; channels = channels; each = 1; stride = 1 }) x (replicate channels sum ++ drop channels x) room (stepPlan room b))
           (sym (tick-engine pool s channels))
@@ -367,7 +454,7 @@ module _ (pool : List Float) (s : Sequencer) (x : List Float) (room : ℕ) (long
 
         go : (c : Bool) → eqb block-no 0 ≡ c
             → Means pool s (soundingOf (cond c accepted (refuses s block-no)) channels n 64) x (cond c (overlay (lent / 64) (take 64 run) (take lent x)) (take lent x) ++ drop lent x) room
-            (cond c (stepPlan room b) (Refuse block-no))
+            (cond c (stepPlan room b) (Answer block-no))
         go true q =
             let small = block-small n lent (s .outputs) (s .time) (s .«sample_duration») (eqb-true block-no 0 q) in
             subst (λ (t : Sequencer). Means pool s (record { sequencer = t; refusal = 0; channels = channels; each = n; stride = 64 }) x out room (stepPlan room b))
@@ -377,14 +464,14 @@ module _ (pool : List Float) (s : Sequencer) (x : List Float) (room : ℕ) (long
   -- ---- every record
 
   pub means : (call : Call) → Means pool s (appliedTo pool s call x) x (appliedOut pool s call x) room (planOf call (clockOf s) room)
-  unfolding planOf appliedTo appliedOut pushes statedEnd pushedTime
+  unfolding planOf appliedTo appliedOut pushes statedEnd pushedTime edits editEnd
   means (Call.Push p) = push-means pool s p _ _ _ x room
   means (Call.PushRelative p) = push-means pool s p _ _ _ x room
   means (Call.PushDuration p) = push-means pool s p _ _ _ x room
   means Call.Tick = tick-means
   means (Call.Process n) = block-means n
   means (Call.Create k m n) = (refl, refl)
-  means (Call.Edit p) = (refl, refl)
-  means (Call.EditRelative p) = (refl, refl)
-  means Call.Reset = (refl, refl)
-  means (Call.SetSampleRate r) = (refl, refl)
+  means (Call.Edit p) = edit-means pool s p _ x room
+  means (Call.EditRelative p) = edit-means pool s p _ x room
+  means Call.Reset = reset-means pool s x room (s .mode) refl
+  means (Call.SetSampleRate r) = rate-means pool s r x room

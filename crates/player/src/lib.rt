@@ -1,4 +1,4 @@
-// A tape's records on an engine that stays in place.
+// A tape's records on an engine that stays in place. What a record asks for is decided before, on small values (crate plans).
 mod bytes;
 
 ghost use mathlib.Core.Path.{_≡_};
@@ -6,6 +6,8 @@ ghost use mathlib.Core.List.{_++_};
 ghost use lib.ListN.{length, drop};
 ghost use Rattle.tape.specs.Pool.{trailPool};
 ghost use Rattle.player.specs.Records.{playedInto, played};
+use lists::ActiveMap;
+use lists::Found;
 use plans::Clock;
 use plans::Plan;
 use refusals::held;
@@ -13,6 +15,8 @@ use runs::least;
 use tape::reader::Cursor;
 use tape::reader::Read;
 
+// The one function that owns the engine. It is long because every loop that moves events stands in it: an engine that goes through a function in a loop is copied, 63,584 bytes, each time.
+// Each arm has document 01's sentence; a creation, a reset in mode All and another rate are rare and go by value.
 fn run(tape: &[u8], pool: &[f32], samples: &mut [f32], out: &mut [u8]) -> usize
     requires { ⌜ length (now samples) ≡ 512 ⌝ }
     ensures { λ r. ⌜ r ≡ length (playedInto (now (pool .entry)) (now (tape .entry)) (now (samples .entry)) (length (now (out .entry)))) ⌝ }
@@ -45,10 +49,13 @@ fn run(tape: &[u8], pool: &[f32], samples: &mut [f32], out: &mut [u8]) -> usize
         };
         let plan = plans::plan_of(call, clock, out.len() - at);
         match plan {
-            Plan::Refuse(_) => {}
+            // "A refused call leaves it and all that is lent unchanged"; so does the rate that the engine has.
+            Plan::Answer(_) => {}
+            // "It also stops before the first tick or block whose samples don't fit".
             Plan::Full => {
                 return at;
             }
+            // Push: "start < θ appends to S without looking in E";
             Plan::Sound(event) => {
                 let n = s.active_len;
                 let id = event.id;
@@ -57,6 +64,7 @@ fn run(tape: &[u8], pool: &[f32], samples: &mut [f32], out: &mut [u8]) -> usize
                 s.active_len = n + 1;
                 s.next = std::num::wrapping_add_u64(s.next, 1);
             }
+            // "otherwise into W": up the heap from the first free place, past every one that it precedes.
             Plan::Wait(event) => {
                 let n = s.ready_len;
                 let mut i = n;
@@ -73,10 +81,12 @@ fn run(tape: &[u8], pool: &[f32], samples: &mut [f32], out: &mut [u8]) -> usize
                 s.ready_len = n + 1;
                 s.next = std::num::wrapping_add_u64(s.next, 1);
             }
+            // Tick, or block: "in mode None F's numbers are appended to G and F empties".
             Plan::Render(step) => {
                 s.let_go = plans::gone(step.releases, s.let_go, s.past_len);
                 s.past_len = plans::kept(step.releases, s.past_len);
                 s.active_threshold = step.threshold;
+                // "While W's first start < θ it moves to S's end, taking and removing its edit." The heap's last goes down from the first place, past every child that precedes it.
                 loop {
                     let first = s.ready[0];
                     if !plans::starts(s.ready_len, first.start_time, s.active_threshold) {
@@ -114,6 +124,7 @@ fn run(tape: &[u8], pool: &[f32], samples: &mut [f32], out: &mut [u8]) -> usize
                         s.active_len = n + 1;
                     }
                 }
+                // "Then i = 0: if end ≤ t + 0.5 × d, S's last fills place i and the event goes to F's end; else it sounds and i grows. Last, t = e."
                 let mut i = 0;
                 while plans::within(i, s.active_len) {
                     let event = s.active[i];
@@ -134,21 +145,65 @@ fn run(tape: &[u8], pool: &[f32], samples: &mut [f32], out: &mut [u8]) -> usize
                     }
                 }
                 s.time = step.end;
+                // The samples, in S order, and their bytes. Of an event only its source's place changes.
                 let m = least(s.active_len, 256);
                 let w = mixing::cleared_places(step.size);
                 let mut mix = [0.0f32; 64];
                 let mut k = 0;
                 while k < m {
                     let event = s.active[k];
-                    let event = plans::sound(event, step, pool, &mut mix[0..w]);
-                    s.active[k] = event;
+                    let unit = plans::sound(event, step, pool, &mut mix[0..w]);
+                    s.active[k].unit.value = unit.value;
+                    s.active[k].unit.place = unit.place;
                     k = k + 1;
                 }
                 plans::write(step, &mix[0..w], samples);
                 bytes::put_channels(samples, step.channels, step.size, step.stride, out, at);
                 at = at + 4 * (step.channels * step.size);
             }
-            Plan::Other => {
+            // Edit: "in S, replace end and fade-out. Else, if end < θ, nothing. Else store in E, replacing an earlier edit".
+            Plan::Amend(id, edit) => {
+                let ids = s.active_map;
+                let index = ActiveMap {
+                    ids,
+                    len: s.active_len,
+                };
+                let found = index.find(id);
+                match found {
+                    Found::At(i) => {
+                        let event = s.active[i];
+                        let event = event.edited(edit);
+                        s.active[i] = event;
+                    }
+                    Found::Nothing => {
+                        if !(edit.end_time < s.active_threshold) {
+                            let edits = s.edit_map;
+                            let edits = edits.insert(id, edit);
+                            s.edit_map = edits;
+                        }
+                    }
+                }
+            }
+            // Reset: "None appends the numbers of F, W and S to G and empties all four of W, S, F and E. t = 0, θ = -infinity."
+            Plan::Clear => {
+                s.let_go = plans::gone_all(s.let_go, s.past_len, s.ready_len, s.active_len);
+                s.edit_map.len = 0;
+                s.past_len = 0;
+                s.active_len = 0;
+                s.ready_len = 0;
+                s.time = 0.0;
+                s.active_threshold = plans::lowest();
+            }
+            // Reset: "All sends everything to W and rewinds sources, E remaining".
+            Plan::Rewind => {
+                s = s.reset();
+            }
+            // Rate: "if different, r and d change, everything goes to W, θ = -infinity".
+            Plan::Rate(rate) => {
+                s = s.change_rate(rate);
+            }
+            // A creation; "refusals 1, 14, 15 stop it".
+            Plan::Create => {
                 let a = apply::apply(s, call, pool, samples);
                 if a.refusal == 1 {
                     return at;
@@ -159,6 +214,7 @@ fn run(tape: &[u8], pool: &[f32], samples: &mut [f32], out: &mut [u8]) -> usize
     }
 }
 
+// Writes the samples of a tape's ticks and blocks, with the pool of `trail`, to the front of `out` and returns how many bytes they take.
 pub fn play(tape: &[u8], out: &mut [u8]) -> usize
     ensures { λ r. ⌜ r ≡ length (played trailPool (now (tape .entry)) (length (now (out .entry)))) ⌝ }
     ensures { λ r. ⌜ now (out .exit) ≡ played trailPool (now (tape .entry)) (length (now (out .entry))) ++ drop r (now (out .entry)) ⌝ }

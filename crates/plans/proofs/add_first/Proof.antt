@@ -1,3 +1,4 @@
+-- `plans::add_first` meets its contract. Assumes nothing.
 use mathlib.Core.Path.{_≡_, refl, ap}
 use denote.Ref.{now}
 use lib.Ieee.{Float}

@@ -1,3 +1,4 @@
+-- `plans::block_plan` meets its contract. Assumes nothing.
 use mathlib.Core.Path.{_≡_, sym, ap, _∙_}
 use borrow.Author.Tests.{eq-eqb, ne-eqb}
 use lib.Ieee.{Float}
@@ -14,8 +15,11 @@ returns c = rw (← c .before .before .least .ensures, ← c .before .process-re
 
 returns-2 : tie.Need-returns-2
 unfolding blockPlan
-returns-2 c = rw (← c .before .before .before .before .before .before .least .ensures, ← c .before .before .before .before .before .process-refusal .ensures, eq-eqb _ _ (c .before .before .before .before .if1 .left))
-    (c .step-plan .ensures ∙ ap (λ (x : Float). stepPlan (c .before .before .before .before .before .before .before .args .room) (stepOf false (c .before .before .before .before .before .before .before .args .size) (c .before .before .before .before .before .before .least .result) 64 (c .before .before .before .before .before .before .before .args .clock .time +ᵈ c .before .before .before .before .before .before .before .args .clock .duration ×ᵈ x) (c .before .before .before .before .before .before .before .args .clock))) (c .before .before .before .nearest-u64-to-f64 .ensures ∙ sym (whole-is (c .before .before .before .before .before .before .before .args .size))))
+returns-2 c =
+    let d = c .before .before .before .before in
+    rw (← d .before .before .least .ensures, ← d .before .process-refusal .ensures, eq-eqb _ _ (d .if1 .left))
+    (c .step-plan .ensures ∙ ap (λ (x : Float). stepPlan (d .before .before .before .args .room) (stepOf false (d .before .before .before .args .size) (d .before .before .least .result) 64 (d .before .before .before .args .clock .time +ᵈ d .before .before .before .args .clock .duration ×ᵈ x) (d .before .before .before .args .clock)))
+    (c .before .before .before .nearest-u64-to-f64 .ensures ∙ sym (whole-is (d .before .before .before .args .size))))
 
 pub block-plan-spec : {M : Type 1} → statement M
 block-plan-spec =

@@ -1,3 +1,4 @@
+-- `plans::gone` meets its contract. Assumes nothing.
 use borrow.Author.Needs.{needs}
 use Rattle.plans.proofs.gone.Statement.{statement}
 use Rattle.plans.proofs.gone.Tie as tie

@@ -1,3 +1,4 @@
+-- `plans::plan_of` meets its contract. Assumes nothing.
 use mathlib.Core.Path.{_≡_, refl, sym, ap, _∙_}
 use Rattle.tape.specs.declared.reader.Call.{Call}
 use Rattle.plans.specs.declared.Plan.{Plan}
@@ -36,24 +37,25 @@ returns-6 c = of-arm (c .before .before) (c .enum-told2 .given .1) refl
 
 returns-7 : tie.Need-returns-7
 unfolding planOf
-returns-7 c = of-arm (c .before .before) (c .enum-told3 .given .1) refl
+returns-7 c = of-arm (c .before .before .before .before) (c .before .before .call5 .given .1) (c .edit-plan .ensures)
 
 returns-8 : tie.Need-returns-8
 unfolding planOf
-returns-8 c = of-arm (c .before .before) (c .enum-told4 .given .1) refl
+returns-8 c = of-arm (c .before .before .before .before .before .before) (c .before .before .before .before .call6 .given .1) (c .edit-plan2 .ensures)
 
 returns-9 : tie.Need-returns-9
 unfolding planOf
-returns-9 c = of-arm (c .before .before) (c .enum-told5 .given .1) refl
+returns-9 c = of-arm (c .before .before .before) (c .before .enum-told3 .given .1) (c .reset-plan .ensures)
 
 returns-10 : tie.Need-returns-10
 unfolding planOf
-returns-10 c = of-arm (c .before .before) (c .enum-told6 .given .1) refl
+returns-10 c = of-arm (c .before .before .before .before) (c .before .before .call7 .given .1) (c .rate-plan .ensures)
 
 pub plan-of-spec : {M : Type 1} → statement M
 plan-of-spec =
     tie.close
     (tie.spec (λ c. search needs) (λ c κs. search needs) (λ c. search needs) (λ c κs. search needs) (λ c. search needs)
     (λ c κs. search needs) (λ c. search needs) (λ c κs. search needs) (λ c. search needs) (λ c. search needs) (λ c κs. search needs)
-    (λ c. search needs) (λ c. search needs) (λ c. search needs) (λ c. search needs) (λ c. search needs) returns returns-2 returns-3
-    returns-4 returns-5 returns-6 returns-7 returns-8 returns-9 returns-10)
+    (λ c. search needs) (λ c. search needs) (λ c κs. search needs) (λ c. search needs) (λ c κs. search needs) (λ c. search needs)
+    (λ c κs. search needs) (λ c. search needs) (λ c κs. search needs) returns returns-2 returns-3 returns-4 returns-5 returns-6 returns-7
+    returns-8 returns-9 returns-10)

@@ -1,3 +1,4 @@
+-- `plans::push_plan` meets its contract. Assumes nothing.
 use mathlib.Core.Path.{_≡_, ap}
 use borrow.Author.Tests.{eq-eqb, ne-eqb}
 use Rattle.plans.specs.declared.Plan.the-variants.{Sound, Wait}

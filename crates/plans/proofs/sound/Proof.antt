@@ -1,7 +1,9 @@
+-- `plans::sound` meets its contract. Assumes nothing.
 use mathlib.Core.Path.{_≡_, ap, _∙_}
 use denote.Ref.{now}
 use lib.Ieee.{Float}
 use lib.ListN.{length, getD, set}
+use Rattle.event.specs.declared.Event.{Event}
 use Rattle.floats.specs.Arithmetic.{_+ˢ_, zeroᶠ}
 use Rattle.ledger.specs.TickSamples.{tickSample, afterTick}
 use Rattle.ledger.specs.BlockSamples.{channelAfter, afterBlock}
@@ -14,18 +16,18 @@ use Rattle.plans.proofs.sound.Tie as tie
 
 returns : tie.Need-returns
 returns c =
-    let a = c .before .before .before .before .before .before .before .before .before .args in
+    let a = c .before .before .before .before .before .before .before .before .before .before .args in
     let row = now (a .row) in (
-      c .after-tick .ensures ∙ when _ (afterBlock (spanIn (a .step)) (a .event)) (c .before .before .before .before .before .before .if1 .taken),
-      c .before .before .before .add-first .ensures ∙ ap (λ (x : Float). set row 0 (getD row 0 zeroᶠ +ˢ x)) (c .before .before .before .before .before .tick-sample .ensures) ∙ when _ (channelAfter (now (a .pool)) (spanIn (a .step)) (a .event) row) (c .before .before .before .before .before .before .if1 .taken),
+      c .advance .ensures ∙ ap (λ (e : Event). e .unit) (when (afterTick (a .event)) (afterBlock (spanIn (a .step)) (a .event)) (c .before .before .before .before .before .before .before .if1 .taken)),
+      c .before .before .before .before .add-first .ensures ∙ ap (λ (x : Float). set row 0 (getD row 0 zeroᶠ +ˢ x)) (c .before .before .before .before .before .before .tick-sample .ensures) ∙ when _ (channelAfter (now (a .pool)) (spanIn (a .step)) (a .event) row) (c .before .before .before .before .before .before .before .if1 .taken),
     )
 
 returns-2 : tie.Need-returns-2
 returns-2 c =
-    let a = c .before .before .before .before .before .before .before .before .before .args in
+    let a = c .before .before .before .before .before .before .before .before .before .before .args in
     let row = now (a .row) in (
-      ap (λ (p : Processed). p .event) (c .before .before .before .process-event .ensures .0) ∙ unless (afterTick (a .event)) _ (c .before .before .before .before .before .before .if1 .left),
-      c .before .before .before .process-event .ensures .1 ∙ unless (set row 0 (getD row 0 zeroᶠ +ˢ tickSample (now (a .pool)) (a .step .time) (a .event))) _ (c .before .before .before .before .before .before .if1 .left),
+      ap (λ (p : Processed). p .event .unit) (c .before .before .before .before .process-event .ensures .0) ∙ ap (λ (e : Event). e .unit) (unless (afterTick (a .event)) (afterBlock (spanIn (a .step)) (a .event)) (c .before .before .before .before .before .before .before .if1 .left)),
+      c .before .before .before .before .process-event .ensures .1 ∙ unless (set row 0 (getD row 0 zeroᶠ +ˢ tickSample (now (a .pool)) (a .step .time) (a .event))) _ (c .before .before .before .before .before .before .before .if1 .left),
     )
 
 pub sound-spec : {M : Type 1} → statement M

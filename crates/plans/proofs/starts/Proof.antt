@@ -1,3 +1,4 @@
+-- `plans::starts` meets its contract. Assumes nothing.
 use borrow.Author.Needs.{needs}
 use native.Mathlib.Omega.{arith}
 use mathlib.Core.Bool.{and-false}

@@ -1,3 +1,4 @@
+-- `plans::take_edit` meets its contract. Assumes nothing.
 use mathlib.Core.Path.{_≡_, sym, ap, ap₂, _∙_}
 use Rattle.event.specs.declared.Event.{Event}
 use Rattle.lists.specs.declared.EditMap.{EditMap}

@@ -1,3 +1,4 @@
+-- `plans::tick_plan` meets its contract. Assumes nothing.
 use borrow.Author.Tests.{eq-eqb, ne-eqb}
 use Rattle.plans.specs.Plans.{tickPlan}
 use borrow.Author.Needs.{needs}

@@ -1,3 +1,4 @@
+-- `plans::within` meets its contract. Assumes nothing.
 use borrow.Author.Needs.{needs}
 use mathlib.Core.Bool.{and-false, and-true}
 use mathlib.Core.Path.{sym}

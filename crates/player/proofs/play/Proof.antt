@@ -1,3 +1,4 @@
+-- `player::play` meets its contract. Assumes nothing.
 use mathlib.Core.Path.{_≡_, subst}
 use mathlib.Core.List.{List}
 use lib.Ieee.{Float}

@@ -1,3 +1,4 @@
+-- `player::run` meets its contract: the record loop keeps `Rolling`, and every arm leaves what its plan means. The inner loops keep the laws of the moves (crate sequencer). Assumes nothing.
 use borrow.Author.Needs.{needs}
 use borrow.Author.Tests.{not-true, not-false}
 use borrow.Rule.Slice.PartMut.{same-len-mid}
@@ -20,24 +21,25 @@ use Rattle.floats.specs.Arithmetic.{zeroᶠ, _<ᶠ_}
 use Rattle.listing.specs.Putting.{same-long}
 use Rattle.mixing.specs.Blocks.{clearedPlaces}
 use Rattle.sequencer.specs.declared.Sequencer.{Sequencer}
-use Rattle.sequencer.specs.Parts.{withReady, withTimes, withSounding}
+use Rattle.sequencer.specs.Parts.{withReady, withTimes}
+use Rattle.sequencer.specs.Edits.{indexOf}
 use Rattle.sequencer.specs.Moves.{poppedReady, readyToActive, activeToPast}
 use Rattle.sequencer.specs.Rounds.{RisingIn, rising-in, rising-in-on, risen-in-root, risen-in-stop, lastPlace, lastOf, SinkingIn, sinking-in, sinking-in-on, sunk-in-end, sunk-in-stop}
 use Rattle.sequencer.specs.Turns.{Activating, Taking, taking-none, taking-len, activating-room, activating-full, Finishing, finishing-on, finishing-room, finishing-full}
-use Rattle.sequencer.specs.Steady.{Passing, passing-start, passing-on, passing-end}
+use Rattle.sequencer.specs.Steady.{Passing, passing-start, passing-end}
 use Rattle.tape.specs.declared.reader.Read.{Read}
 use Rattle.tape.specs.declared.reader.Read.the-variants.{Record, Refused, End}
 use Rattle.tape.proofs.reader.Read.{the-type}
 use Rattle.tape.specs.Tape.{readAt}
 use Rattle.apply.specs.declared.Applied.{Applied}
-use Rattle.apply.specs.Applying.{appliedTo, appliedOut}
+use Rattle.apply.specs.Applying.{silent, appliedTo, appliedOut}
 use Rattle.plans.specs.declared.Clock.{Clock}
 use Rattle.plans.specs.declared.Plan.{Plan}
 use Rattle.plans.specs.Plans.{planOf}
 use Rattle.plans.specs.Sounding.{soundedEvent, soundedRow, writtenTo}
 use Rattle.player.proofs.Rolling.{Rolling, isRecord, start, moves, ends-unread, ends-refused, ends-full, goes-on, goes-on-silent, sound-length}
 use Rattle.player.proofs.Meaning.{Means, Renders, means, advancedIn, passIn, renderedIn, rowIn, heardIn}
-use Rattle.player.proofs.Arms.{entered-active, entered-ready, starts-true, starts-false, taking-edit, child-is, child-between, within-true, within-false, begun, advanced-by}
+use Rattle.player.proofs.Arms.{entered-active, entered-ready, starts-true, starts-false, taking-edit, child-is, child-between, within-true, within-false, found-inside, amended-active, amended-past, amended-stored, cleared, passing-moved, begun, advanced-by}
 use Rattle.player.proofs.run.Statement.{statement}
 use Rattle.player.proofs.run.Tie as tie
 
@@ -102,8 +104,11 @@ abbrev μ-loop : tie.MeasureT-loop
 
 -- ---- the record that was read, and what its plan means
 
-reads : (c : tie.After-plan-of Inv-loop2 μ-loop2 Inv-loop4 μ-loop4 Inv-loop3 μ-loop3 Inv-loop5 μ-loop5 Inv-loop6 μ-loop6 Inv-loop μ-loop) → (let v = c .before .before .before .r .given .0 in readAt (c .before .before .before .before .before .before .before .before .before .before .before .before .args .tape .now) (c .before .before .before .before .before .before .loop .cursor) ≡ Record (v .0) (v .1 .0) (v .1 .1 .0))
-reads c = sym (c .before .before .before .before .before .read .ensures) ∙ c .before .before .before .r .given .1
+reads : (c : tie.After-plan-of Inv-loop2 μ-loop2 Inv-loop4 μ-loop4 Inv-loop3 μ-loop3 Inv-loop5 μ-loop5 Inv-loop6 μ-loop6 Inv-loop μ-loop) → (let v = c .before .before .before .r .given .0 in readAt (c .before .before .before .before .before .before .before .before .before .before .before .before .args .tape .now)
+    (c .before .before .before .before .before .before .loop .cursor) ≡ Record (v .0) (v .1 .0) (v .1 .1 .0))
+reads c =
+    let d = c .before .before .before .before .before in
+    sym (d .read .ensures) ∙ c .before .before .before .r .given .1
 
 abbrev Called : (c : tie.After-plan-of Inv-loop2 μ-loop2 Inv-loop4 μ-loop4 Inv-loop3 μ-loop3 Inv-loop5 μ-loop5 Inv-loop6 μ-loop6 Inv-loop μ-loop) → Plan → Type 0
 Called c p =
@@ -120,6 +125,27 @@ meant c =
     let long = same-long (l .inv .put) in
     subst (Called c) (sym (c .plan-of .ensures ∙ (λ i. planOf call (clockWith (l .s) (c .before .held .ensures i)) (long i - l .at))))
     (means (a .pool .now) (l .s) (l .samples) (length (a .out .now) - l .at) (l .inv .long) call)
+
+told : (c : tie.After-plan-of Inv-loop2 μ-loop2 Inv-loop4 μ-loop4 Inv-loop3 μ-loop3 Inv-loop5 μ-loop5 Inv-loop6 μ-loop6 Inv-loop μ-loop) {p : Plan} → c .plan-of .result ≡ p → Called c p
+told c e = subst (Called c) e (meant c)
+
+-- the next record is nearer to the tape's end
+less : (c : tie.After-plan-of Inv-loop2 μ-loop2 Inv-loop4 μ-loop4 Inv-loop3 μ-loop3 Inv-loop5 μ-loop5 Inv-loop6 μ-loop6 Inv-loop μ-loop) →
+    (let t = c .before .before .before .before .before .before .before .before .before .before .before .before .args .tape .now in length t - c .before .before .before .r .given .0 .1 .1 .0 .at < length t - c .before .before .before .before .before .before .loop .cursor .at)
+less c =
+    let m = moves _ _ _ _ _ (reads c) in
+    let p = m .0 in
+    let q = m .1 in
+    omega arith
+
+-- a record without samples leaves x in the place of the engine
+on-silent : (c : tie.After-plan-of Inv-loop2 μ-loop2 Inv-loop4 μ-loop4 Inv-loop3 μ-loop3 Inv-loop5 μ-loop5 Inv-loop6 μ-loop6 Inv-loop μ-loop) {s : Sequencer} {n : ℕ}
+    → (let l = c .before .before .before .before .before .before .loop in let a = c .before .before .before .before .before .before .before .before .before .before .before .before .args in let v = c .before .before .before .r .given .0 in
+    appliedTo (a .pool .now) (l .s) (v .1 .0) (l .samples) ≡ silent s n → appliedOut (a .pool .now) (l .s) (v .1 .0) (l .samples) ≡ l .samples → (n ≡ 1 → ⊥) → (x : Sequencer) → x ≡ s
+    → Rolling (a .pool .now) (a .tape .now) (a .out .now) (l .out) (a .samples .now) (l .samples) x (v .1 .1 .0) (l .at))
+on-silent c =
+    let v = c .before .before .before .r .given .0 in
+    goes-on-silent (c .before .before .before .before .before .before .loop .inv) (v .0) (v .1 .0) (v .1 .1 .0) (reads c)
 
 -- ---- a tick or block
 
@@ -153,30 +179,41 @@ inside : (c : tie.Then6 Inv-loop2 μ-loop2 Inv-loop4 μ-loop4 Inv-loop3 μ-loop3
 inside c = within-true _ _ (sym (c .before .within .ensures) ∙ c .if6 .taken)
 
 -- the lists have changed, and the clock
-advanced-to : (c : tie.Else6 Inv-loop2 μ-loop2 Inv-loop4 μ-loop4 Inv-loop3 μ-loop3 Inv-loop5 μ-loop5 Inv-loop6 μ-loop6 Inv-loop μ-loop) → (let b = c .before .before .before .before .before .before .before .before .before .before .plan3 .given .0 .0 in let u = c .before .before .loop5 .s in withTimes u (b .end) (u .«active_threshold») ≡ advancedIn b (c .before .before .before .before .before .before .before .before .before .before .before .before .before .before .before .before .before .before .loop .s))
+advanced-to : (c : tie.Else6 Inv-loop2 μ-loop2 Inv-loop4 μ-loop4 Inv-loop3 μ-loop3 Inv-loop5 μ-loop5 Inv-loop6 μ-loop6 Inv-loop μ-loop) → (let b = c .before .before .before .before .before .before .before .before .before .before .plan3 .given .0 .0 in let u = c .before .before .loop5 .s in withTimes u (b .end) (u .«active_threshold») ≡ advancedIn b
+    (c .before .before .before .before .before .before .before .before .before .before .before .before .before .before .before .before .before .before .loop .s))
 advanced-to c =
-    advanced-by (c .before .before .before .before .before .before .before .before .before .before .plan3 .given .0 .0) (c .before .before .before .before .before .before .before .before .before .before .before .before .before .before .before .before .before .before .loop .s) _ (c .before .before .before .before .before .before .loop3 .s) (c .before .before .loop5 .s) (begun (c .before .before .before .before .before .before .before .before .before .before .plan3 .given .0 .0) (c .before .before .before .before .before .before .before .before .before .before .before .before .before .before .before .before .before .before .loop .s) (c .before .before .before .before .before .before .before .before .gone .ensures) (c .before .before .before .before .before .before .before .kept .ensures))
-    (starts-false _ _ (sym (c .before .before .before .before .starts .ensures) ∙ not-true _ (c .before .before .before .if2 .taken)) (c .before .before .before .before .before .before .loop3 .inv))
+    let d = c .before .before .before .before in
+    let e = d .before .before .before .before in
+    advanced-by (e .before .before .plan3 .given .0 .0) (e .before .before .before .before .before .before .before .before .before .before .loop .s) _ (d .before .before .loop3 .s) (c .before .before .loop5 .s) (begun (e .before .before .plan3 .given .0 .0) (e .before .before .before .before .before .before .before .before .before .before .loop .s)
+    (e .gone .ensures) (d .before .before .before .kept .ensures))
+    (starts-false _ _ (sym (d .starts .ensures) ∙ not-true _ (c .before .before .before .if2 .taken)) (d .before .before .loop3 .inv))
     (within-false _ _ _ _ (sym (c .before .within .ensures) ∙ c .if6 .left) (c .before .before .loop5 .inv))
 
 renders-in : (c : tie.After-plan3 Inv-loop2 μ-loop2 Inv-loop4 μ-loop4 Inv-loop3 μ-loop3 Inv-loop5 μ-loop5 Inv-loop6 μ-loop6 Inv-loop μ-loop)
     → (let l = c .before .before .before .before .before .before .before .before .loop in let a = c .before .before .before .before .before .before .before .before .before .before .before .before .before .before .args in let call = c .before .before .before .before .before .r .given .0 .1 .0 in
     Renders (a .pool .now) (l .s) (appliedTo (a .pool .now) (l .s) call (l .samples)) (l .samples) (appliedOut (a .pool .now) (l .s) call (l .samples)) (length (a .out .now) - l .at) (c .plan3 .given .0 .0))
-renders-in c = subst (Called (c .before .before)) (c .plan3 .given .1) (meant (c .before .before))
+renders-in c = told (c .before .before) (c .plan3 .given .1)
 
 -- every event has been added
 summed : (c : tie.After-loop6 Inv-loop2 μ-loop2 Inv-loop4 μ-loop4 Inv-loop3 μ-loop3 Inv-loop5 μ-loop5 Inv-loop6 μ-loop6 Inv-loop μ-loop)
-    → (let b = c .before .before .before .before .before .before .before .before .before .before .before .before .before .before .plan3 .given .0 .0 in let s = c .before .before .before .before .before .before .before .before .before .before .before .before .before .before .before .before .before .before .before .before .before .before .loop .s in let pool = c .before .before .before .before .before .before .before .before .before .before .before .before .before .before .before .before .before .before .before .before .before .before .before .before .before .before .before .before .args .pool .now in
+    → (let b = c .before .before .before .before .before .before .before .before .before .before .before .before .before .before .plan3 .given .0 .0 in let s = c .before .before .before .before .before .before .before .before .before .before .before .before .before .before .before .before .before .before .before .before .before .before .loop .s in
+    let pool = c .before .before .before .before .before .before .before .before .before .before .before .before .before .before .before .before .before .before .before .before .before .before .before .before .before .before .before .before .args .pool .now in
     (c .before .loop6 .s ≡ renderedIn pool b s) × (take (c .before .before .cleared-places .result) (c .before .loop6 .mix) ≡ rowIn pool b s))
-summed c = passing-end (advanced-to (c .before .before .before .before)) (c .loop6-test .left) (c .before .loop6 .inv .0)
+summed c =
+    let d = c .before .before .before .before in
+    passing-end (advanced-to d) (c .loop6-test .left) (c .before .loop6 .inv .0)
 
 -- the samples are those of the call
 written : (c : tie.After-write Inv-loop2 μ-loop2 Inv-loop4 μ-loop4 Inv-loop3 μ-loop3 Inv-loop5 μ-loop5 Inv-loop6 μ-loop6 Inv-loop μ-loop)
-    → (let l = c .before .before .before .before .before .before .before .before .before .before .before .before .before .before .before .before .before .before .before .before .before .before .before .before .before .before .loop in let a = c .before .before .before .before .before .before .before .before .before .before .before .before .before .before .before .before .before .before .before .before .before .before .before .before .before .before .before .before .before .before .before .before .args in c .write .last .1 .1 .0 ≡ appliedOut (a .pool .now) (l .s) (c .before .before .before .before .before .before .before .before .before .before .before .before .before .before .before .before .before .before .before .before .before .before .before .r .given .0 .1 .0) (l .samples))
+    → (let l = c .before .before .before .before .before .before .before .before .before .before .before .before .before .before .before .before .before .before .before .before .before .before .before .before .before .before .loop in
+    let a = c .before .before .before .before .before .before .before .before .before .before .before .before .before .before .before .before .before .before .before .before .before .before .before .before .before .before .before .before .before .before .before .before .args in c .write .last .1 .1 .0 ≡ appliedOut (a .pool .now) (l .s)
+    (c .before .before .before .before .before .before .before .before .before .before .before .before .before .before .before .before .before .before .before .before .before .before .before .r .given .0 .1 .0) (l .samples))
 written c =
-    let b = c .before .before .before .before .before .before .before .before .before .before .before .before .before .before .before .before .before .before .plan3 .given .0 .0 in
-    let q : take (c .before .before .before .before .before .before .cleared-places .result - 0) (c .before .before .before .before .before .loop6 .mix) ≡ take (c .before .before .before .before .before .before .cleared-places .result) (c .before .before .before .before .before .loop6 .mix) = rw sub-zero in
-    c .write .ensures ∙ ap (λ (r : List Float). writtenTo b r (c .before .before .before .before .before .before .before .before .before .before .before .before .before .before .before .before .before .before .before .before .before .before .before .before .before .before .loop .samples)) (q ∙ summed (c .before .before .before .before) .1) ∙ sym (renders-in (c .before .before .before .before .before .before .before .before .before .before .before .before .before .before .before .before .before .before) .output)
+    let d = c .before .before .before .before in
+    let e = d .before .before .before .before .before .before .before .before .before .before .before .before .before .before in
+    let b = e .plan3 .given .0 .0 in
+    let q : take (d .before .before .cleared-places .result - 0) (d .before .loop6 .mix) ≡ take (d .before .before .cleared-places .result) (d .before .loop6 .mix) = rw sub-zero in
+    c .write .ensures ∙ ap (λ (r : List Float). writtenTo b r (e .before .before .before .before .before .before .before .before .loop .samples)) (q ∙ summed (d) .1) ∙ sym (renders-in (e) .output)
 
 loop-holds : tie.Need-loop-holds Inv-loop2 μ-loop2 Inv-loop4 μ-loop4 Inv-loop3 μ-loop3 Inv-loop5 μ-loop5 Inv-loop6 μ-loop6 Inv-loop μ-loop
 loop-holds c = start _ _ _ _ _ (c .start .ensures) (c .before .before .before .before .before .pre)
@@ -197,17 +234,12 @@ sub-plan-of c =
     omega arith
 
 loop-less : tie.Need-loop-less Inv-loop2 μ-loop2 Inv-loop4 μ-loop4 Inv-loop3 μ-loop3 Inv-loop5 μ-loop5 Inv-loop6 μ-loop6 Inv-loop μ-loop
-loop-less c =
-    let m = moves _ _ _ _ _ (reads (c .before .before)) in
-    let p = m .0 in
-    let q = m .1 in
-    omega arith
+loop-less c = less (c .before .before)
 
 loop-again : tie.Need-loop-again Inv-loop2 μ-loop2 Inv-loop4 μ-loop4 Inv-loop3 μ-loop3 Inv-loop5 μ-loop5 Inv-loop6 μ-loop6 Inv-loop μ-loop
 loop-again c =
-    let v = c .before .before .before .before .before .r .given .0 in
-    let m = subst (Called (c .before .before)) (c .enum-told .given .1) (meant (c .before .before)) in
-    goes-on-silent (c .before .before .before .before .before .before .before .before .loop .inv) (v .0) (v .1 .0) (v .1 .1 .0) (reads (c .before .before)) (m .0) (m .1) (m .2) _ refl
+    let m = told (c .before .before) (c .enum-told .given .1) in
+    on-silent (c .before .before) (m .0) (m .1) (m .2) _ refl
 
 same-length-3 : tie.Need-same-length-3 Inv-loop2 μ-loop2 Inv-loop4 μ-loop4 Inv-loop3 μ-loop3 Inv-loop5 μ-loop5 Inv-loop6 μ-loop6 Inv-loop μ-loop
 same-length-3 c = c .before .before .before .before .before .before .before .before .loop .inv .long ∙ sym (c .before .before .before .before .before .before .before .before .before .before .before .before .before .before .pre)
@@ -218,72 +250,57 @@ same-length-4 c = same-long (c .before .before .before .before .before .before .
 returns-2 : tie.Need-returns-2 Inv-loop2 μ-loop2 Inv-loop4 μ-loop4 Inv-loop3 μ-loop3 Inv-loop5 μ-loop5 Inv-loop6 μ-loop6 Inv-loop μ-loop
 returns-2 c =
     let v = c .before .before .before .before .before .r .given .0 in
-    let m = subst (Called (c .before .before)) (c .enum-told2 .given .1) (meant (c .before .before)) in
+    let m = told (c .before .before) (c .enum-told2 .given .1) in
     ends-full (c .before .before .before .before .before .before .before .before .loop .inv) (v .0) (v .1 .0) (v .1 .1 .0) (reads (c .before .before)) _ _ refl refl (m .0) (m .1)
 
 mul-event : tie.Need-mul-event Inv-loop2 μ-loop2 Inv-loop4 μ-loop4 Inv-loop3 μ-loop3 Inv-loop5 μ-loop5 Inv-loop6 μ-loop6 Inv-loop μ-loop
 mul-event c =
-    let m = subst (Called (c .before .before .before .before)) (c .before .before .plan .given .1) (meant (c .before .before .before .before)) in
-    let h = m .2 in
+    let h = told (c .before .before .before .before) (c .before .before .plan .given .1) .2 in
     search needs
 
 element-set-from-event : tie.Need-element-set-from-event Inv-loop2 μ-loop2 Inv-loop4 μ-loop4 Inv-loop3 μ-loop3 Inv-loop5 μ-loop5 Inv-loop6 μ-loop6 Inv-loop μ-loop
 element-set-from-event c =
-    let m = subst (Called (c .before .before .before .before)) (c .before .before .plan .given .1) (meant (c .before .before .before .before)) in
-    let h = m .2 in
+    let h = told (c .before .before .before .before) (c .before .before .plan .given .1) .2 in
     search needs
 
 mul-id : tie.Need-mul-id Inv-loop2 μ-loop2 Inv-loop4 μ-loop4 Inv-loop3 μ-loop3 Inv-loop5 μ-loop5 Inv-loop6 μ-loop6 Inv-loop μ-loop
 mul-id c =
-    let m = subst (Called (c .before .before .before .before)) (c .before .before .plan .given .1) (meant (c .before .before .before .before)) in
-    let h = m .2 in
+    let h = told (c .before .before .before .before) (c .before .before .plan .given .1) .2 in
     search needs
 
 element-set-from-id : tie.Need-element-set-from-id Inv-loop2 μ-loop2 Inv-loop4 μ-loop4 Inv-loop3 μ-loop3 Inv-loop5 μ-loop5 Inv-loop6 μ-loop6 Inv-loop μ-loop
 element-set-from-id c =
-    let m = subst (Called (c .before .before .before .before)) (c .before .before .plan .given .1) (meant (c .before .before .before .before)) in
-    let h = m .2 in
+    let h = told (c .before .before .before .before) (c .before .before .plan .given .1) .2 in
     search needs
 
 add-s : tie.Need-add-s Inv-loop2 μ-loop2 Inv-loop4 μ-loop4 Inv-loop3 μ-loop3 Inv-loop5 μ-loop5 Inv-loop6 μ-loop6 Inv-loop μ-loop
 add-s c =
-    let m = subst (Called (c .before .before .before .before)) (c .before .before .plan .given .1) (meant (c .before .before .before .before)) in
-    let h = m .2 in
+    let h = told (c .before .before .before .before) (c .before .before .plan .given .1) .2 in
     search needs
 
 loop-less-2 : tie.Need-loop-less-2 Inv-loop2 μ-loop2 Inv-loop4 μ-loop4 Inv-loop3 μ-loop3 Inv-loop5 μ-loop5 Inv-loop6 μ-loop6 Inv-loop μ-loop
-loop-less-2 c =
-    let m = moves _ _ _ _ _ (reads (c .before .before .before .before .before)) in
-    let p = m .0 in
-    let q = m .1 in
-    omega arith
+loop-less-2 c = less (c .before .before .before .before .before)
 
 loop-again-2 : tie.Need-loop-again-2 Inv-loop2 μ-loop2 Inv-loop4 μ-loop4 Inv-loop3 μ-loop3 Inv-loop5 μ-loop5 Inv-loop6 μ-loop6 Inv-loop μ-loop
 loop-again-2 c =
-    let v = c .before .before .before .before .before .before .before .before .r .given .0 in
-    let m = subst (Called (c .before .before .before .before .before)) (c .before .before .before .plan .given .1) (meant (c .before .before .before .before .before)) in
-    goes-on-silent (c .before .before .before .before .before .before .before .before .before .before .before .loop .inv) (v .0) (v .1 .0) (v .1 .1 .0) (reads (c .before .before .before .before .before)) (m .0) (m .1) (λ z. omega arith) _ (entered-active (c .before .before .before .before .before .before .before .before .before .before .before .loop .s) (c .before .before .before .plan .given .0 .0) (m .2) (c .wrapping-add-u64 .ensures))
+    let m = told (c .before .before .before .before .before) (c .before .before .before .plan .given .1) in
+    on-silent (c .before .before .before .before .before) (m .0) (m .1) (λ z. omega arith) _ (entered-active (c .before .before .before .before .before .before .before .before .before .before .before .loop .s) (c .before .before .before .plan .given .0 .0) (m .2) (c .wrapping-add-u64 .ensures))
 
 loop2-holds : tie.Need-loop2-holds Inv-loop2 μ-loop2 Inv-loop4 μ-loop4 Inv-loop3 μ-loop3 Inv-loop5 μ-loop5 Inv-loop6 μ-loop6 Inv-loop μ-loop
-loop2-holds c = (subst (Called (c .before .before .before)) (c .before .plan2 .given .1) (meant (c .before .before .before)) .2, rising-in)
+loop2-holds c = (told (c .before .before .before) (c .before .plan2 .given .1) .2, rising-in)
 
 loop2-again : tie.Need-loop2-again Inv-loop2 μ-loop2 Inv-loop4 μ-loop4 Inv-loop3 μ-loop3 Inv-loop5 μ-loop5 Inv-loop6 μ-loop6 Inv-loop μ-loop
 loop2-again c = (c .before .before .before .before .loop2 .inv .0, rising-in-on (c .before .before .before .loop2-test .taken) (sym (c .before .precedes .ensures) ∙ not-false _ (c .if1 .left)) (c .before .before .before .before .loop2 .inv .1))
 
 loop-less-3 : tie.Need-loop-less-3 Inv-loop2 μ-loop2 Inv-loop4 μ-loop4 Inv-loop3 μ-loop3 Inv-loop5 μ-loop5 Inv-loop6 μ-loop6 Inv-loop μ-loop
-loop-less-3 c =
-    let m = moves _ _ _ _ _ (reads (c .before .before .before .before .before .before)) in
-    let p = m .0 in
-    let q = m .1 in
-    omega arith
+loop-less-3 c = less (c .before .before .before .before .before .before)
 
 loop-again-3 : tie.Need-loop-again-3 Inv-loop2 μ-loop2 Inv-loop4 μ-loop4 Inv-loop3 μ-loop3 Inv-loop5 μ-loop5 Inv-loop6 μ-loop6 Inv-loop μ-loop
 loop-again-3 c =
-    let v = c .before .before .before .before .before .before .before .before .before .r .given .0 in
-    let m = subst (Called (c .before .before .before .before .before .before)) (c .before .before .before .before .plan2 .given .1) (meant (c .before .before .before .before .before .before)) in
+    let m = told (c .before .before .before .before .before .before) (c .before .before .before .before .plan2 .given .1) in
     let i = c .before .before .loop2 .inv in
     let g = ⊎-elim (λ w. risen-in-root (i .0) (w .left) (i .1)) (λ w. risen-in-stop (i .0) (sym (w .2 .ensures) ∙ not-true _ (w .3 .taken)) (i .1)) (c .before .loop2-test .came) in
-    goes-on-silent (c .before .before .before .before .before .before .before .before .before .before .before .before .loop .inv) (v .0) (v .1 .0) (v .1 .1 .0) (reads (c .before .before .before .before .before .before)) (m .0) (m .1) (λ z. omega arith) _ (entered-ready (c .before .before .before .before .before .before .before .before .before .before .before .before .loop .s) (c .before .before .loop2 .s) _ (c .before .before .before .before .plan2 .given .0 .0) (i .1 .same) g (c .wrapping-add-u642 .ensures))
+    on-silent (c .before .before .before .before .before .before) (m .0) (m .1) (λ z. omega arith) _ (entered-ready (c .before .before .before .before .before .before .before .before .before .before .before .before .loop .s) (c .before .before .loop2 .s) _ (c .before .before .before .before .plan2 .given .0 .0) (i .1 .same) g (c .wrapping-add-u642 .ensures))
 
 loop3-holds : tie.Need-loop3-holds Inv-loop2 μ-loop2 Inv-loop4 μ-loop4 Inv-loop3 μ-loop3 Inv-loop5 μ-loop5 Inv-loop6 μ-loop6 Inv-loop μ-loop
 unfolding readyToActive
@@ -415,23 +432,43 @@ element-copy-out-event-2 c = omega (arith, c .before .loop6 .inv .0 .count, c .l
 part-mix-end : tie.Need-part-mix-end Inv-loop2 μ-loop2 Inv-loop4 μ-loop4 Inv-loop3 μ-loop3 Inv-loop5 μ-loop5 Inv-loop6 μ-loop6 Inv-loop μ-loop
 part-mix-end c = omega (arith, c .before .before .before .cleared-places .ensures, c .before .before .loop6 .inv .1)
 
-mul-event-7 : tie.Need-mul-event-7 Inv-loop2 μ-loop2 Inv-loop4 μ-loop4 Inv-loop3 μ-loop3 Inv-loop5 μ-loop5 Inv-loop6 μ-loop6 Inv-loop μ-loop
-mul-event-7 c = omega (arith, c .before .before .before .before .before .loop6 .inv .0 .count, c .before .before .before .before .loop6-test .taken)
+mul-s : tie.Need-mul-s Inv-loop2 μ-loop2 Inv-loop4 μ-loop4 Inv-loop3 μ-loop3 Inv-loop5 μ-loop5 Inv-loop6 μ-loop6 Inv-loop μ-loop
+mul-s c =
+    let q = c .before .before .before .before .before .loop6 .inv .0 .count in
+    let t = c .before .before .before .before .loop6-test .taken in
+    search needs
 
-element-set-from-event-5 : tie.Need-element-set-from-event-5 Inv-loop2 μ-loop2 Inv-loop4 μ-loop4 Inv-loop3 μ-loop3 Inv-loop5 μ-loop5 Inv-loop6 μ-loop6 Inv-loop μ-loop
-element-set-from-event-5 c = omega (arith, c .before .before .before .before .before .loop6 .inv .0 .count, c .before .before .before .before .loop6-test .taken)
+way-write-given-s : tie.Need-way-write-given-s Inv-loop2 μ-loop2 Inv-loop4 μ-loop4 Inv-loop3 μ-loop3 Inv-loop5 μ-loop5 Inv-loop6 μ-loop6 Inv-loop μ-loop
+way-write-given-s c =
+    let q = c .before .before .before .before .before .loop6 .inv .0 .count in
+    let t = c .before .before .before .before .loop6-test .taken in
+    search needs
+
+mul-s-2 : tie.Need-mul-s-2 Inv-loop2 μ-loop2 Inv-loop4 μ-loop4 Inv-loop3 μ-loop3 Inv-loop5 μ-loop5 Inv-loop6 μ-loop6 Inv-loop μ-loop
+mul-s-2 c =
+    let q = c .before .before .before .before .before .before .loop6 .inv .0 .count in
+    let t = c .before .before .before .before .before .loop6-test .taken in
+    search needs
+
+way-write-given-s-2 : tie.Need-way-write-given-s-2 Inv-loop2 μ-loop2 Inv-loop4 μ-loop4 Inv-loop3 μ-loop3 Inv-loop5 μ-loop5 Inv-loop6 μ-loop6 Inv-loop μ-loop
+way-write-given-s-2 c =
+    let q = c .before .before .before .before .before .before .loop6 .inv .0 .count in
+    let t = c .before .before .before .before .before .loop6-test .taken in
+    search needs
 
 loop6-again : tie.Need-loop6-again Inv-loop2 μ-loop2 Inv-loop4 μ-loop4 Inv-loop3 μ-loop3 Inv-loop5 μ-loop5 Inv-loop6 μ-loop6 Inv-loop μ-loop
 loop6-again c =
-    let l = c .before .before .before .before .before .loop6 in
-    let k = c .before .before .before .before .before .before .cleared-places .result in
-    let r = c .before .sound in
+    let d = c .before .before .before .before .before .before in
+    let e = d .before .before .before .before .before .before .before .before .before .before .before .before .before .before in
+    let l = d .before .loop6 in
+    let k = d .before .before .cleared-places .result in
+    let r = c .before .before .before .sound in
     let ys = r .last .1 .1 .1 .0 in
     let kept = r .kept .1 .1 .1 .0 in
-    let h : k ≤ length (l .mix) = omega (arith, c .before .before .before .before .before .before .cleared-places .ensures, l .inv .1) in
+    let h : k ≤ length (l .mix) = omega (arith, d .before .before .cleared-places .ensures, l .inv .1) in
     let q : take k (ys ++ drop (k - 0) (l .mix)) ≡ ys = take-at ys (drop (k - 0) (l .mix)) k (kept ∙ rw sub-zero (length-take-le k (l .mix) h)) in
-    let v : ys ≡ soundedRow (c .before .before .before .before .before .before .before .before .before .before .before .before .before .before .before .before .before .before .before .before .before .before .before .before .before .before .before .before .before .before .before .before .args .pool .now) (c .before .before .before .before .before .before .before .before .before .before .before .before .before .before .before .before .before .before .plan3 .given .0 .0) (take k (l .mix)) (getD (l .s .active) (l .k) blank) = r .ensures .1 ∙ rw sub-zero in
-    (passing-on refl (r .ensures .0) (q ∙ v) (c .before .before .before .before .loop6-test .taken) (l .inv .0), same-len-mid 0 (k - 0) (l .mix) ys kept ∙ l .inv .1)
+    let v : ys ≡ soundedRow (e .before .before .before .before .before .before .before .before .before .before .before .before .before .before .args .pool .now) (e .plan3 .given .0 .0) (take k (l .mix)) (getD (l .s .active) (l .k) blank) = r .ensures .1 ∙ rw sub-zero in
+    (passing-moved (e .plan3 .given .0 .0) (r .ensures .0) (q ∙ v) (d .loop6-test .taken) (l .inv .0), same-len-mid 0 (k - 0) (l .mix) ys kept ∙ l .inv .1)
 
 part-write-end : tie.Need-part-write-end Inv-loop2 μ-loop2 Inv-loop4 μ-loop4 Inv-loop3 μ-loop3 Inv-loop5 μ-loop5 Inv-loop6 μ-loop6 Inv-loop μ-loop
 part-write-end c = omega (arith, c .before .before .before .cleared-places .ensures, c .before .before .loop6 .inv .1)
@@ -468,29 +505,108 @@ add-at c =
     omega arith
 
 loop-less-4 : tie.Need-loop-less-4 Inv-loop2 μ-loop2 Inv-loop4 μ-loop4 Inv-loop3 μ-loop3 Inv-loop5 μ-loop5 Inv-loop6 μ-loop6 Inv-loop μ-loop
-loop-less-4 c =
-    let m = moves _ _ _ _ _ (reads (c .before .before .before .before .before .before .before .before .before .before .before .before .before .before .before .before .before .before .before .before .before .before .before .before .before .before .before .before)) in
-    let p = m .0 in
-    let q = m .1 in
-    omega arith
+loop-less-4 c = less (c .before .before .before .before .before .before .before .before .before .before .before .before .before .before .before .before .before .before .before .before .before .before .before .before .before .before .before .before)
 
 loop-again-4 : tie.Need-loop-again-4 Inv-loop2 μ-loop2 Inv-loop4 μ-loop4 Inv-loop3 μ-loop3 Inv-loop5 μ-loop5 Inv-loop6 μ-loop6 Inv-loop μ-loop
 loop-again-4 c =
-    let v = c .before .before .before .before .before .before .before .before .before .before .before .before .before .before .before .before .before .before .before .before .before .before .before .before .before .before .before .before .before .before .before .r .given .0 in
-    let l = c .before .before .before .before .before .before .before .before .before .before .before .before .before .before .before .before .before .before .before .before .before .before .before .before .before .before .before .before .before .before .before .before .before .before .loop in
-    let b = c .before .before .before .before .before .before .before .before .before .before .before .before .before .before .before .before .before .before .before .before .before .before .before .before .before .before .plan3 .given .0 .0 in
-    let g = renders-in (c .before .before .before .before .before .before .before .before .before .before .before .before .before .before .before .before .before .before .before .before .before .before .before .before .before .before) in
-    let o = c .before .before .before .before .before .before .before .before .write .last .1 .1 .0 in
-    let x = written (c .before .before .before .before .before .before .before .before) in
+    let d = c .before .before .before .before .before .before .before .before in
+    let e = d .before .before .before .before in
+    let v = e .before .before .before .before .before .before .before .before .before .before .before .before .before .before .before .before .before .before .before .r .given .0 in
+    let l = e .before .before .before .before .before .before .before .before .before .before .before .before .before .before .before .before .before .before .before .before .before .before .loop in
+    let b = e .before .before .before .before .before .before .before .before .before .before .before .before .before .before .plan3 .given .0 .0 in
+    let g = renders-in (e .before .before .before .before .before .before .before .before .before .before .before .before .before .before) in
+    let o = d .write .last .1 .1 .0 in
+    let x = written (d) in
     let long : length o ≡ 512 = ap length x ∙ g .long in
     let i = g .inside in
     let n = sound-length (b .channels) (b .size) (b .stride) o (g .wide) (omega arith) in
     let f = g .fits in
-    goes-on (l .inv) (v .0) (v .1 .0) (v .1 .1 .0) (reads (c .before .before .before .before .before .before .before .before .before .before .before .before .before .before .before .before .before .before .before .before .before .before .before .before .before .before .before .before)) (heardIn (c .before .before .before .before .before .before .before .before .before .before .before .before .before .before .before .before .before .before .before .before .before .before .before .before .before .before .before .before .before .before .before .before .before .before .before .before .before .before .before .before .args .pool .now) b (l .s)) o (sym (g .gives)) x long (λ z. omega arith) (omega arith) _ (c .before .before .before .put-channels .ensures) _ (ap (λ (k : ℕ). l .at + k) n) _ (summed (c .before .before .before .before .before .before .before .before .before .before .before .before) .0)
+    goes-on (l .inv) (v .0) (v .1 .0) (v .1 .1 .0) (reads (e .before .before .before .before .before .before .before .before .before .before .before .before .before .before .before .before)) (heardIn
+    (e .before .before .before .before .before .before .before .before .before .before .before .before .before .before .before .before .before .before .before .before .before .before .before .before .before .before .before .before .args .pool .now) b (l .s)) o (sym (g .gives)) x long (λ z. omega arith) (omega arith) _
+    (c .before .before .before .put-channels .ensures) _ (ap (λ (k : ℕ). l .at + k) n) _ (summed (e) .0)
+
+mul-event-7 : tie.Need-mul-event-7 Inv-loop2 μ-loop2 Inv-loop4 μ-loop4 Inv-loop3 μ-loop3 Inv-loop5 μ-loop5 Inv-loop6 μ-loop6 Inv-loop μ-loop
+mul-event-7 c =
+    let h = found-inside (indexOf (c .before .before .before .before .before .before .before .before .before .before .before .before .before .before .loop .s)) (c .before .before .before .before .before .before .plan4 .given .0 .0) (c .before .found .given .0 .0) (sym (c .before .before .before .find .ensures) ∙ c .before .found .given .1) in
+    search needs
+
+element-copy-out-event-3 : tie.Need-element-copy-out-event-3 Inv-loop2 μ-loop2 Inv-loop4 μ-loop4 Inv-loop3 μ-loop3 Inv-loop5 μ-loop5 Inv-loop6 μ-loop6 Inv-loop μ-loop
+element-copy-out-event-3 c =
+    let h = found-inside (indexOf (c .before .before .before .before .before .before .before .before .before .before .before .before .before .before .loop .s)) (c .before .before .before .before .before .before .plan4 .given .0 .0) (c .before .found .given .0 .0) (sym (c .before .before .before .find .ensures) ∙ c .before .found .given .1) in
+    search needs
+
+mul-event-8 : tie.Need-mul-event-8 Inv-loop2 μ-loop2 Inv-loop4 μ-loop4 Inv-loop3 μ-loop3 Inv-loop5 μ-loop5 Inv-loop6 μ-loop6 Inv-loop μ-loop
+mul-event-8 c =
+    let d = c .before .before .before .before .before in
+    let e = d .before .before .before .before .before .before .before .before .before .before .before in
+    let h = found-inside (indexOf (e .loop .s)) (d .before .before .before .plan4 .given .0 .0) (c .before .before .before .found .given .0 .0) (sym (d .find .ensures) ∙ c .before .before .before .found .given .1) in
+    search needs
+
+element-set-from-event-5 : tie.Need-element-set-from-event-5 Inv-loop2 μ-loop2 Inv-loop4 μ-loop4 Inv-loop3 μ-loop3 Inv-loop5 μ-loop5 Inv-loop6 μ-loop6 Inv-loop μ-loop
+element-set-from-event-5 c =
+    let d = c .before .before .before .before .before in
+    let e = d .before .before .before .before .before .before .before .before .before .before .before in
+    let h = found-inside (indexOf (e .loop .s)) (d .before .before .before .plan4 .given .0 .0) (c .before .before .before .found .given .0 .0) (sym (d .find .ensures) ∙ c .before .before .before .found .given .1) in
+    search needs
+
+loop-less-5 : tie.Need-loop-less-5 Inv-loop2 μ-loop2 Inv-loop4 μ-loop4 Inv-loop3 μ-loop3 Inv-loop5 μ-loop5 Inv-loop6 μ-loop6 Inv-loop μ-loop
+loop-less-5 c = less (c .before .before .before .before .before .before .before .before .before .before)
+
+loop-again-5 : tie.Need-loop-again-5 Inv-loop2 μ-loop2 Inv-loop4 μ-loop4 Inv-loop3 μ-loop3 Inv-loop5 μ-loop5 Inv-loop6 μ-loop6 Inv-loop μ-loop
+loop-again-5 c =
+    let d = c .before .before .before .before .before in
+    let e = d .before .before .before .before .before in
+    let m = told (e) (d .before .before .before .plan4 .given .1) in
+    on-silent (e) (m .0) (m .1) (m .2) _ (amended-active (e .before .before .before .before .before .before .loop .s) (d .before .before .before .plan4 .given .0 .0) (d .before .before .before .plan4 .given .0 .1 .0) (sym (d .find .ensures) ∙ c .before .before .before .found .given .1) (c .edited .ensures))
+
+loop-less-6 : tie.Need-loop-less-6 Inv-loop2 μ-loop2 Inv-loop4 μ-loop4 Inv-loop3 μ-loop3 Inv-loop5 μ-loop5 Inv-loop6 μ-loop6 Inv-loop μ-loop
+loop-less-6 c = less (c .before .before .before .before .before .before .before .before .before .before .before)
+
+loop-again-6 : tie.Need-loop-again-6 Inv-loop2 μ-loop2 Inv-loop4 μ-loop4 Inv-loop3 μ-loop3 Inv-loop5 μ-loop5 Inv-loop6 μ-loop6 Inv-loop μ-loop
+loop-again-6 c =
+    let d = c .before .before .before .before in
+    let e = d .before .before .before .before .before in
+    let m = told (e .before .before) (e .plan4 .given .1) in
+    on-silent (e .before .before) (m .0) (m .1) (m .2) _ (amended-stored (e .before .before .before .before .before .before .before .before .loop .s) (e .plan4 .given .0 .0) (e .plan4 .given .0 .1 .0) (sym (d .before .before .find .ensures) ∙ d .enum-told3 .given .1) (not-true _ (c .before .before .if9 .taken)) (c .insert .ensures))
+
+loop-less-7 : tie.Need-loop-less-7 Inv-loop2 μ-loop2 Inv-loop4 μ-loop4 Inv-loop3 μ-loop3 Inv-loop5 μ-loop5 Inv-loop6 μ-loop6 Inv-loop μ-loop
+loop-less-7 c = less (c .before .before .before .before .before .before .before .before .before)
+
+loop-again-7 : tie.Need-loop-again-7 Inv-loop2 μ-loop2 Inv-loop4 μ-loop4 Inv-loop3 μ-loop3 Inv-loop5 μ-loop5 Inv-loop6 μ-loop6 Inv-loop μ-loop
+loop-again-7 c =
+    let d = c .before .before .before .before in
+    let e = d .before .before .before .before .before in
+    let m = told (e) (d .before .before .before .plan4 .given .1) in
+    on-silent (e) (m .0) (m .1) (m .2) _ (amended-past (e .before .before .before .before .before .before .loop .s) (d .before .before .before .plan4 .given .0 .0) (d .before .before .before .plan4 .given .0 .1 .0) (sym (d .find .ensures) ∙ c .before .before .enum-told3 .given .1) (not-false _ (c .if9 .left)))
+
+loop-less-8 : tie.Need-loop-less-8 Inv-loop2 μ-loop2 Inv-loop4 μ-loop4 Inv-loop3 μ-loop3 Inv-loop5 μ-loop5 Inv-loop6 μ-loop6 Inv-loop μ-loop
+loop-less-8 c = less (c .before .before .before .before .before)
+
+loop-again-8 : tie.Need-loop-again-8 Inv-loop2 μ-loop2 Inv-loop4 μ-loop4 Inv-loop3 μ-loop3 Inv-loop5 μ-loop5 Inv-loop6 μ-loop6 Inv-loop μ-loop
+unfolding ofBits
+loop-again-8 c =
+    let m = told (c .before .before .before .before .before) (c .before .before .before .enum-told4 .given .1) in
+    on-silent (c .before .before .before .before .before) (m .0) (m .1) (λ z. omega arith) _ (cleared (c .before .before .before .before .before .before .before .before .before .before .before .loop .s) (c .before .before .gone-all .ensures) (c .lowest .ensures) (m .2))
+
+loop-less-9 : tie.Need-loop-less-9 Inv-loop2 μ-loop2 Inv-loop4 μ-loop4 Inv-loop3 μ-loop3 Inv-loop5 μ-loop5 Inv-loop6 μ-loop6 Inv-loop μ-loop
+loop-less-9 c = less (c .before .before .before)
+
+loop-again-9 : tie.Need-loop-again-9 Inv-loop2 μ-loop2 Inv-loop4 μ-loop4 Inv-loop3 μ-loop3 Inv-loop5 μ-loop5 Inv-loop6 μ-loop6 Inv-loop μ-loop
+loop-again-9 c =
+    let m = told (c .before .before .before) (c .before .enum-told5 .given .1) in
+    on-silent (c .before .before .before) (m .0) (m .1) (λ z. omega arith) _ (c .reset .ensures)
+
+loop-less-10 : tie.Need-loop-less-10 Inv-loop2 μ-loop2 Inv-loop4 μ-loop4 Inv-loop3 μ-loop3 Inv-loop5 μ-loop5 Inv-loop6 μ-loop6 Inv-loop μ-loop
+loop-less-10 c = less (c .before .before .before .before)
+
+loop-again-10 : tie.Need-loop-again-10 Inv-loop2 μ-loop2 Inv-loop4 μ-loop4 Inv-loop3 μ-loop3 Inv-loop5 μ-loop5 Inv-loop6 μ-loop6 Inv-loop μ-loop
+loop-again-10 c =
+    let m = told (c .before .before .before .before) (c .before .before .plan5 .given .1) in
+    on-silent (c .before .before .before .before) (m .0) (m .1) (λ z. omega arith) _ (c .change-rate .ensures)
 
 same-length-5 : tie.Need-same-length-5 Inv-loop2 μ-loop2 Inv-loop4 μ-loop4 Inv-loop3 μ-loop3 Inv-loop5 μ-loop5 Inv-loop6 μ-loop6 Inv-loop μ-loop
 same-length-5 c =
-    let m = subst (Called (c .before .before .before .before .before .before .before .before)) (c .before .before .before .before .before .before .enum-told3 .given .1) (meant (c .before .before .before .before .before .before .before .before)) in
+    let m = told (c .before .before .before .before .before .before .before .before) (c .before .before .before .before .before .before .enum-told6 .given .1) in
     ap length (c .before .before .before .before .apply .ensures .1 ∙ m .1) ∙ c .before .before .before .before .before .before .before .before .before .before .before .before .before .before .loop .inv .long ∙ sym (c .before .before .before .before .before .before .before .before .before .before .before .before .before .before .before .before .before .before .before .before .pre)
 
 same-length-6 : tie.Need-same-length-6 Inv-loop2 μ-loop2 Inv-loop4 μ-loop4 Inv-loop3 μ-loop3 Inv-loop5 μ-loop5 Inv-loop6 μ-loop6 Inv-loop μ-loop
@@ -498,24 +614,24 @@ same-length-6 c = same-long (c .before .before .before .before .before .before .
 
 returns-3 : tie.Need-returns-3 Inv-loop2 μ-loop2 Inv-loop4 μ-loop4 Inv-loop3 μ-loop3 Inv-loop5 μ-loop5 Inv-loop6 μ-loop6 Inv-loop μ-loop
 returns-3 c =
-    let v = c .before .before .before .before .before .before .before .before .before .before .before .r .given .0 in
-    ends-refused (c .before .before .before .before .before .before .before .before .before .before .before .before .before .before .loop .inv) (v .0) (v .1 .0) (v .1 .1 .0) (reads (c .before .before .before .before .before .before .before .before)) (c .before .before .before .before .apply .result) _ (c .before .before .before .before .apply .ensures .0) (c .before .before .before .before .apply .ensures .1) (c .if9 .taken)
+    let d = c .before .before .before .before in
+    let e = d .before .before .before .before in
+    let v = e .before .before .before .r .given .0 in
+    ends-refused (e .before .before .before .before .before .before .loop .inv) (v .0) (v .1 .0) (v .1 .1 .0) (reads e) (d .apply .result) _ (d .apply .ensures .0) (d .apply .ensures .1) (c .if10 .taken)
 
-loop-less-5 : tie.Need-loop-less-5 Inv-loop2 μ-loop2 Inv-loop4 μ-loop4 Inv-loop3 μ-loop3 Inv-loop5 μ-loop5 Inv-loop6 μ-loop6 Inv-loop μ-loop
-loop-less-5 c =
-    let m = moves _ _ _ _ _ (reads (c .before .before .before .before .before .before .before .before .before)) in
-    let p = m .0 in
-    let q = m .1 in
-    omega arith
+loop-less-11 : tie.Need-loop-less-11 Inv-loop2 μ-loop2 Inv-loop4 μ-loop4 Inv-loop3 μ-loop3 Inv-loop5 μ-loop5 Inv-loop6 μ-loop6 Inv-loop μ-loop
+loop-less-11 c = less (c .before .before .before .before .before .before .before .before .before)
 
-loop-again-5 : tie.Need-loop-again-5 Inv-loop2 μ-loop2 Inv-loop4 μ-loop4 Inv-loop3 μ-loop3 Inv-loop5 μ-loop5 Inv-loop6 μ-loop6 Inv-loop μ-loop
-loop-again-5 c =
-    let v = c .before .before .before .before .before .before .before .before .before .before .before .before .r .given .0 in
-    let l = c .before .before .before .before .before .before .before .before .before .before .before .before .before .before .before .loop in
-    let a = c .before .before .before .before .before .before .before .before .before .before .before .before .before .before .before .before .before .before .before .before .before .args in
-    let m = subst (Called (c .before .before .before .before .before .before .before .before .before)) (c .before .before .before .before .before .before .before .enum-told3 .given .1) (meant (c .before .before .before .before .before .before .before .before .before)) in
-    subst (λ (o : List Float). Rolling (a .pool .now) (a .tape .now) (a .out .now) (l .out) (a .samples .now) o (c .before .before .before .before .before .apply .result .sequencer) (v .1 .1 .0) (l .at)) (sym (c .before .before .before .before .before .apply .ensures .1 ∙ m .1))
-    (goes-on-silent (l .inv) (v .0) (v .1 .0) (v .1 .1 .0) (reads (c .before .before .before .before .before .before .before .before .before)) (m .0) (m .1) (λ z. c .before .if9 .left (ap (λ (x : Applied). x .refusal) (c .before .before .before .before .before .apply .ensures .0) ∙ z)) (c .before .before .before .before .before .apply .result .sequencer) (ap (λ (x : Applied). x .sequencer) (c .before .before .before .before .before .apply .ensures .0)))
+loop-again-11 : tie.Need-loop-again-11 Inv-loop2 μ-loop2 Inv-loop4 μ-loop4 Inv-loop3 μ-loop3 Inv-loop5 μ-loop5 Inv-loop6 μ-loop6 Inv-loop μ-loop
+loop-again-11 c =
+    let d = c .before .before .before .before .before in
+    let e = d .before .before .before .before in
+    let v = e .before .before .before .r .given .0 in
+    let l = e .before .before .before .before .before .before .loop in
+    let a = e .before .before .before .before .before .before .before .before .before .before .before .before .args in
+    let m = told (e) (d .before .before .enum-told6 .given .1) in
+    subst (λ (o : List Float). Rolling (a .pool .now) (a .tape .now) (a .out .now) (l .out) (a .samples .now) o (d .apply .result .sequencer) (v .1 .1 .0) (l .at)) (sym (d .apply .ensures .1 ∙ m .1))
+    (on-silent (e) (m .0) (m .1) (λ z. c .before .if10 .left (ap (λ (x : Applied). x .refusal) (d .apply .ensures .0) ∙ z)) (d .apply .result .sequencer) (ap (λ (x : Applied). x .sequencer) (d .apply .ensures .0)))
 
 pub run-spec : {M : Type 1} → statement M
 run-spec =
@@ -536,6 +652,10 @@ run-spec =
     element-set-from-last-2 mul-id-3 element-copy-out-id mul-id-4 element-set-from-id-3 (λ c. search needs) (λ c. search needs)
     (λ c. search needs) loop5-less loop5-again loop5-less-2 loop5-again-2 add-i loop5-less-3 loop5-again-3 (λ c κs. search needs)
     (λ c κs. search needs) loop6-holds mul-event-6 element-copy-out-event-2 (λ c. search needs) (λ c. search needs) part-mix-end
-    (λ c κs. search needs) mul-event-7 element-set-from-event-5 (λ c. search needs) (λ c. search needs) loop6-again (λ c. search needs)
-    (λ c. search needs) part-write-end (λ c κs. search needs) put-channels-requires mul-at mul-at-2 add-at loop-less-4 loop-again-4
-    (λ c. search needs) (λ c κs. search needs) same-length-5 same-length-6 returns-3 loop-less-5 loop-again-5)
+    (λ c κs. search needs) mul-s way-write-given-s mul-s-2 way-write-given-s-2 (λ c. search needs) (λ c. search needs) loop6-again
+    (λ c. search needs) (λ c. search needs) part-write-end (λ c κs. search needs) put-channels-requires mul-at mul-at-2 add-at loop-less-4
+    loop-again-4 (λ c. search needs) (λ c κs. search needs) (λ c. search needs) mul-event-7 element-copy-out-event-3 (λ c κs. search needs)
+    mul-event-8 element-set-from-event-5 loop-less-5 loop-again-5 (λ c. search needs) (λ c κs. search needs) loop-less-6 loop-again-6
+    loop-less-7 loop-again-7 (λ c. search needs) (λ c κs. search needs) (λ c κs. search needs) loop-less-8 loop-again-8 (λ c. search needs)
+    (λ c κs. search needs) loop-less-9 loop-again-9 (λ c. search needs) (λ c κs. search needs) loop-less-10 loop-again-10
+    (λ c. search needs) (λ c κs. search needs) same-length-5 same-length-6 returns-3 loop-less-11 loop-again-11)

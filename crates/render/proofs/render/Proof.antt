@@ -1,3 +1,4 @@
+-- `render::render` meets its contract: the player gives what the plain ledger gives. Assumes nothing.
 use mathlib.Core.Path.{_≡_, subst}
 use mathlib.Core.List.{List, _++_}
 use Prim.Native.Nat.{ℕ}
