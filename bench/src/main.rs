@@ -440,6 +440,7 @@ fn main() {
         ("ticks", tapes::ticks()),
         ("blocks", tapes::blocks()),
         ("dense", tapes::dense()),
+        ("256 at once", tapes::all_at_once()),
         ("edits", tapes::edits()),
         ("random mix", tapes::mix(2_000)),
     ] {

@@ -117,6 +117,20 @@ pub fn dense() -> Vec<u8> {
     writer.tape
 }
 
+/// 256 clips are pushed and start in one block of 64; three blocks later all are let go.
+pub fn all_at_once() -> Vec<u8> {
+    let mut writer = Writer::new(1);
+    for _ in 0..20 {
+        for _ in 0..256 {
+            writer.push((0, 63), (64, 64), 0.2, false);
+        }
+        for _ in 0..4 {
+            writer.put(Call::Block(64));
+        }
+    }
+    writer.tape
+}
+
 /// With each push and block: an edit of the pushed clip, which waits, one of a clip that sounds, and one of any of the last 20, which may
 /// have finished: such an edit stays stored up to the reset after each 100 blocks.
 pub fn edits() -> Vec<u8> {
