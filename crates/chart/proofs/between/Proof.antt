@@ -20,7 +20,18 @@ mul-result : tie.Need-mul-result
 mul-result c = let e = c .before .before .before .before .least2 .ensures in let f = c .least3 .ensures in let h = c .before .if3 .left in let p = product (c .before .before .before .before .least2 .result - c .before .before .before .before .before .least .result) (c .least3 .result) (omega arith) (omega arith) in omega arith
 
 add-result : tie.Need-add-result
-add-result c = let d = c .before .before .before .before .before .least .ensures in let e = c .before .before .before .before .least2 .ensures in let f = c .least3 .ensures in let h = c .before .if3 .left in let p = product (c .before .before .before .before .least2 .result - c .before .before .before .before .before .least .result) (c .least3 .result) (omega arith) (omega arith) in let q = div-le-self ((c .before .before .before .before .least2 .result - c .before .before .before .before .before .least .result) * c .least3 .result) (c .before .before .before .before .before .before .args .n) in omega arith
+add-result c =
+    let s1 = c .before in
+    let s4 = s1 .before .before .before in
+    let s5 = s4 .before in
+    let s6 = s5 .before in
+    let d = s5 .least .ensures in
+    let e = s4 .least2 .ensures in
+    let f = c .least3 .ensures in
+    let h = s1 .if3 .left in
+    let p = product (s4 .least2 .result - s5 .least .result) (c .least3 .result) (omega arith) (omega arith) in
+    let q = div-le-self ((s4 .least2 .result - s5 .least .result) * c .least3 .result) (s6 .args .n) in
+    omega arith
 
 returns-4 : tie.Need-returns-4
 returns-4 c = let a = c .before .before .before .before .before .before .args in rw (c .before .before .before .before .before .least .ensures, c .before .before .before .before .least2 .ensures, c .least3 .ensures) (between-at (a .from) (a .to) (a .k) (a .n) (c .before .before .if2 .left) (c .before .if3 .left))

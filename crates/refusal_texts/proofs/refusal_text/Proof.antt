@@ -12,15 +12,35 @@ returns c = let e : textOf (c .before .before .before .before .before .before .a
 
 returns-2 : tie.Need-returns-2
 unfolding textOf
-returns-2 c = let e : textOf (c .before .before .before .before .before .before .before .args .number) ≡ secondTexts (c .before .before .before .before .before .before .before .args .number) = rw (le-ltb _ _ (c .before .before .before .before .before .if1 .left), lt-ltb _ _ (c .before .before .before .before .if2 .taken)) refl in worded (c .before .before .before .before .before .before .before .args .out .now) e (c .before .before .second-texts .ensures)
+returns-2 c =
+    let s2 = c .before .before in
+    let s4 = s2 .before .before in
+    let s5 = s4 .before in
+    let s7 = s5 .before .before in
+    let e : textOf (s7 .args .number) ≡ secondTexts (s7 .args .number) = rw (le-ltb _ _ (s5 .if1 .left), lt-ltb _ _ (s4 .if2 .taken)) refl in
+    worded (s7 .args .out .now) e (s2 .second-texts .ensures)
 
 returns-3 : tie.Need-returns-3
 unfolding textOf
-returns-3 c = let e : textOf (c .before .before .before .before .before .before .before .before .args .number) ≡ thirdTexts (c .before .before .before .before .before .before .before .before .args .number) = rw (le-ltb _ _ (c .before .before .before .before .before .before .if1 .left), le-ltb _ _ (c .before .before .before .before .before .if2 .left), lt-ltb _ _ (c .before .before .before .before .if3 .taken)) refl in worded (c .before .before .before .before .before .before .before .before .args .out .now) e (c .before .before .third-texts .ensures)
+returns-3 c =
+    let s2 = c .before .before in
+    let s4 = s2 .before .before in
+    let s5 = s4 .before in
+    let s6 = s5 .before in
+    let s8 = s6 .before .before in
+    let e : textOf (s8 .args .number) ≡ thirdTexts (s8 .args .number) = rw (le-ltb _ _ (s6 .if1 .left), le-ltb _ _ (s5 .if2 .left), lt-ltb _ _ (s4 .if3 .taken)) refl in
+    worded (s8 .args .out .now) e (s2 .third-texts .ensures)
 
 returns-4 : tie.Need-returns-4
 unfolding textOf
-returns-4 c = let e : textOf (c .before .before .before .before .before .before .before .before .args .number) ≡ lastTexts (c .before .before .before .before .before .before .before .before .args .number) = rw (le-ltb _ _ (c .before .before .before .before .before .before .if1 .left), le-ltb _ _ (c .before .before .before .before .before .if2 .left), le-ltb _ _ (c .before .before .before .before .if3 .left)) refl in worded (c .before .before .before .before .before .before .before .before .args .out .now) e (c .before .before .last-texts .ensures)
+returns-4 c =
+    let s2 = c .before .before in
+    let s4 = s2 .before .before in
+    let s5 = s4 .before in
+    let s6 = s5 .before in
+    let s8 = s6 .before .before in
+    let e : textOf (s8 .args .number) ≡ lastTexts (s8 .args .number) = rw (le-ltb _ _ (s6 .if1 .left), le-ltb _ _ (s5 .if2 .left), le-ltb _ _ (s4 .if3 .left)) refl in
+    worded (s8 .args .out .now) e (s2 .last-texts .ensures)
 
 pub refusal-text-spec : {M : Type 1} → statement M
 refusal-text-spec =
