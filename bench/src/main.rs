@@ -441,6 +441,7 @@ fn main() {
         ("blocks", tapes::blocks()),
         ("dense", tapes::dense()),
         ("256 at once", tapes::all_at_once()),
+        ("256 pushed, then a reset", tapes::pushed_alone()),
         ("edits", tapes::edits()),
         ("random mix", tapes::mix(2_000)),
     ] {

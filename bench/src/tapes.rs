@@ -131,6 +131,18 @@ pub fn all_at_once() -> Vec<u8> {
     writer.tape
 }
 
+/// The same 256 pushes, and a reset that lets them go: what is left of the tape above are its four blocks.
+pub fn pushed_alone() -> Vec<u8> {
+    let mut writer = Writer::new(1);
+    for _ in 0..20 {
+        for _ in 0..256 {
+            writer.push((0, 63), (64, 64), 0.2, false);
+        }
+        writer.put(Call::Reset);
+    }
+    writer.tape
+}
+
 /// With each push and block: an edit of the pushed clip, which waits, one of a clip that sounds, and one of any of the last 20, which may
 /// have finished: such an edit stays stored up to the reset after each 100 blocks.
 pub fn edits() -> Vec<u8> {
