@@ -429,31 +429,20 @@ fn main() {
         starts(n, &pool);
     }
     head("tapes through the C entry, ns a record");
-    for (what, tape) in [
-        ("music, 1 ch", tapes::music(1, false, 1_000)),
-        ("music, 2 ch", tapes::music(2, false, 1_000)),
-        ("music, 8 ch", tapes::music(8, false, 1_000)),
-        (
-            "music, 2 ch, a gain for each clip",
-            tapes::music(2, true, 1_000),
-        ),
-        ("ticks", tapes::ticks()),
-        ("blocks", tapes::blocks()),
-        ("dense", tapes::dense()),
-        ("256 at once", tapes::all_at_once()),
-        ("256 pushed, then a reset", tapes::pushed_alone()),
-        ("edits", tapes::edits()),
-        ("random mix", tapes::mix(2_000)),
-    ] {
+    for (what, tape) in tapes::all(1) {
         entry(what, &tape);
     }
     if let [_, ours, theirs, folder] = &arguments[..] {
         head("tapes through the programs, ns a record");
-        for (what, tape) in [
-            ("trail, music, 1 ch", tapes::music(1, false, 10_000)),
-            ("trail, random mix", tapes::mix(6_000)),
-        ] {
-            trail(what, ours, theirs, &tape, Path::new(folder));
+        // Longer ones, so that starting a program counts for little.
+        for (what, tape) in tapes::all(5) {
+            trail(
+                &format!("trail, {what}"),
+                ours,
+                theirs,
+                &tape,
+                Path::new(folder),
+            );
         }
     } else {
         println!(

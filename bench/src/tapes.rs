@@ -81,7 +81,7 @@ impl Writer {
 }
 
 /// Three blocks of 64 after each push; about 13 clips sound, each with a fade of a fifth of its length at both ends.
-pub fn music(channels: u8, gains: bool, pushes: usize) -> Vec<u8> {
+fn music(channels: u8, gains: bool, pushes: usize) -> Vec<u8> {
     let mut writer = Writer::new(channels);
     for _ in 0..pushes {
         writer.push((0, 192), (500, 4500), 0.2, gains);
@@ -92,10 +92,22 @@ pub fn music(channels: u8, gains: bool, pushes: usize) -> Vec<u8> {
     writer.tape
 }
 
-/// 40 ticks after each push; about ten clips sound, every other one fades.
-pub fn ticks() -> Vec<u8> {
+/// So many clips sound throughout, without fades, in blocks of 64.
+fn sounding(clips: usize, blocks: usize) -> Vec<u8> {
     let mut writer = Writer::new(1);
-    for push in 0..250 {
+    for _ in 0..clips {
+        writer.push((0, 0), (1 << 40, 1 << 40), 0.0, false);
+    }
+    for _ in 0..blocks {
+        writer.put(Call::Block(64));
+    }
+    writer.tape
+}
+
+/// 40 ticks after each push; about ten clips sound, every other one fades.
+fn ticks(pushes: usize) -> Vec<u8> {
+    let mut writer = Writer::new(1);
+    for push in 0..pushes {
         let fade = [0.0, 0.2][push % 2];
         writer.push((0, 40), (100, 700), fade, false);
         for _ in 0..40 {
@@ -106,9 +118,9 @@ pub fn ticks() -> Vec<u8> {
 }
 
 /// 48 clips start in each block of 64, and as many finish.
-pub fn dense() -> Vec<u8> {
+fn dense(blocks: usize) -> Vec<u8> {
     let mut writer = Writer::new(1);
-    for _ in 0..100 {
+    for _ in 0..blocks {
         for _ in 0..48 {
             writer.push((0, 63), (64, 192), 0.2, false);
         }
@@ -118,9 +130,9 @@ pub fn dense() -> Vec<u8> {
 }
 
 /// 256 clips are pushed and start in one block of 64; three blocks later all are let go.
-pub fn all_at_once() -> Vec<u8> {
+fn all_at_once(rounds: usize) -> Vec<u8> {
     let mut writer = Writer::new(1);
-    for _ in 0..20 {
+    for _ in 0..rounds {
         for _ in 0..256 {
             writer.push((0, 63), (64, 64), 0.2, false);
         }
@@ -132,9 +144,9 @@ pub fn all_at_once() -> Vec<u8> {
 }
 
 /// The same 256 pushes, and a reset that lets them go: what is left of the tape above are its four blocks.
-pub fn pushed_alone() -> Vec<u8> {
+fn pushed_alone(rounds: usize) -> Vec<u8> {
     let mut writer = Writer::new(1);
-    for _ in 0..20 {
+    for _ in 0..rounds {
         for _ in 0..256 {
             writer.push((0, 63), (64, 64), 0.2, false);
         }
@@ -145,9 +157,9 @@ pub fn pushed_alone() -> Vec<u8> {
 
 /// With each push and block: an edit of the pushed clip, which waits, one of a clip that sounds, and one of any of the last 20, which may
 /// have finished: such an edit stays stored up to the reset after each 100 blocks.
-pub fn edits() -> Vec<u8> {
+fn edits(rounds: usize) -> Vec<u8> {
     let mut writer = Writer::new(1);
-    for _ in 0..10 {
+    for _ in 0..rounds {
         for _ in 0..100 {
             writer.push((64, 256), (400, 1000), 0.2, false);
             let newest = writer.next - 1;
@@ -178,16 +190,40 @@ fn joined<'a>(profiles: impl Iterator<Item = &'a Profile>, records: usize) -> Ve
 }
 
 /// Blocks of all sizes.
-pub fn blocks() -> Vec<u8> {
-    joined(PROFILES.iter().filter(|p| p.name == "blocks"), 8_000)
+fn blocks(records: usize) -> Vec<u8> {
+    joined(PROFILES.iter().filter(|p| p.name == "blocks"), records)
 }
 
 /// All profiles of whole tapes with gains of 1.0.
-pub fn mix(records: usize) -> Vec<u8> {
+fn mix(records: usize) -> Vec<u8> {
     let plain = |p: &&Profile| {
         p.format == Format::Tape && !p.damaged && matches!(p.gains, Gains::None | Gains::One)
     };
     joined(PROFILES.iter().filter(plain), records)
+}
+
+/// Every tape, so many times as long.
+pub fn all(times: usize) -> Vec<(&'static str, Vec<u8>)> {
+    vec![
+        ("music, 1 ch", music(1, false, 1_000 * times)),
+        ("music, 2 ch", music(2, false, 1_000 * times)),
+        ("music, 8 ch", music(8, false, 1_000 * times)),
+        (
+            "music, 2 ch, a gain for each clip",
+            music(2, true, 1_000 * times),
+        ),
+        ("ticks", ticks(250 * times)),
+        ("blocks", blocks(8_000 * times)),
+        ("blocks of 64, 1 sounding", sounding(1, 4_000 * times)),
+        ("blocks of 64, 8 sounding", sounding(8, 2_000 * times)),
+        ("blocks of 64, 64 sounding", sounding(64, 500 * times)),
+        ("blocks of 64, 256 sounding", sounding(256, 200 * times)),
+        ("dense", dense(100 * times)),
+        ("256 at once", all_at_once(20 * times)),
+        ("256 pushed, then a reset", pushed_alone(20 * times)),
+        ("edits", edits(10 * times)),
+        ("random mix", mix(2_000 * times)),
+    ]
 }
 
 /// How many records a tape has.
