@@ -1,9 +1,10 @@
 -- What the code gives for a place: its number and how it came, both the ledger's; and an event after a block with its places counted. Assumes nothing.
 use Prim.Native.Nat.{ℕ, _-_, min, max}
-use mathlib.Core.Bool.{_&&_, cond}
+use mathlib.Core.Bool.{Bool, _&&_, cond}
 use mathlib.Core.List.{_++_}
 use lib.Dec.{ltb, leb}
 use lib.Ieee.{Float}
+use Rattle.floats.specs.Arithmetic.{_+ᵈ_, _-ᵈ_, _<ᶠ_, zeroᶠ}
 use Rattle.floats.specs.declared.SampleIndex.{SampleIndex}
 use Rattle.floats.specs.Floats.{index}
 use Rattle.floats.specs.IndexStep.{isFree}
@@ -39,6 +40,13 @@ fadeInOf b z e = record { at = fadeInPlace b z e; how = fadeInPlacing b e }
 
 abbrev pub fadeOutOf : Span → (s : ℕ) → Event → Place
 fadeOutOf b s e = record { at = max (fadeOutPlace b e) s; how = fadeOutPlacing b s e }
+
+-- whether a fade acts in the block
+abbrev pub fadesIn : Span → Event → Bool
+fadesIn b e = zeroᶠ <ᶠ e .«fade_in» && b .clock <ᶠ (e .«start_time» +ᵈ e .«fade_in»)
+
+abbrev pub fadesOut : Span → Event → Bool
+fadesOut b e = zeroᶠ <ᶠ e .«fade_out» && (e .«end_time» -ᵈ e .«fade_out») <ᶠ b .upto
 
 -- where z > s: the source has moved on by z - s, and the fades' places are counted
 abbrev pub runProcessed : Span → (s z : ℕ) → Event → Placings → Processed

@@ -1,7 +1,8 @@
 // What one event adds to a tick and to a block: `tick`, `process`, `fade_in` and `fade_out` of src/sequencer.rs of fundsp.
 ghost use mathlib.Core.Path.{_≡_};
-ghost use mathlib.Core.Bool.{_&&_};
-ghost use Prim.Native.Nat.{_-_};
+ghost use mathlib.Core.Bool.{false, not, _&&_, _||_};
+ghost use lib.Dec.{leb};
+ghost use Prim.Native.Nat.{_-_, _≤_};
 ghost use lib.ListN.{length};
 ghost use Rattle.floats.specs.Arithmetic.{_<ᶠ_, _≤ᶠ_};
 ghost use Rattle.event.specs.Placings.{addAll};
@@ -9,7 +10,7 @@ ghost use Rattle.ledger.specs.TickSamples.{fadedIn, fadedOut, tickSample, after
 ghost use Rattle.ledger.specs.BlockSamples.{phaseAt, phaseStep, runFadedIn, runFadedOut, fadedRun, addAt, channelAfter};
 ghost use Rattle.ledger.specs.Places.{fadeInPlacings, fadeOutPlacings};
 ghost use Rattle.mixing.specs.Blocks.{asSpan, clearedPlaces};
-ghost use Rattle.mixing.specs.Placed.{placingOf, roundedPlace, raisedPlace, firstOf, endOf, fadeInOf, fadeOutOf, runProcessed, processed};
+ghost use Rattle.mixing.specs.Placed.{placingOf, roundedPlace, raisedPlace, firstOf, endOf, fadeInOf, fadeOutOf, fadesIn, fadesOut, runProcessed, processed};
 use event::Event;
 use event::Placing;
 use event::Placings;
@@ -336,6 +337,63 @@ fn add_run(
     }
 }
 
+// Whether the fade-in acts in the block.
+fn fades_in(event: Event, span: Span) -> bool
+    ensures { λ r. ⌜ r ≡ fadesIn (asSpan span) event ⌝ }
+{
+    if event.fade_in > 0.0 {
+        return event.start_time + event.fade_in > span.clock;
+    }
+    false
+}
+
+// Whether the fade-out acts in the block.
+fn fades_out(event: Event, span: Span) -> bool
+    ensures { λ r. ⌜ r ≡ fadesOut (asSpan span) event ⌝ }
+{
+    if event.fade_out > 0.0 {
+        return event.end_time - event.fade_out < span.upto;
+    }
+    false
+}
+
+// Whether an event that ends at place z goes to a channel of n places as it is: all its places are there, and no fade acts.
+fn is_plain(event: Event, span: Span, z: usize, n: usize) -> bool
+    ensures { λ r. ⌜ r ≡ (leb z n && not (fadesIn (asSpan span) event || fadesOut (asSpan span) event)) ⌝ }
+{
+    if n < z {
+        return false;
+    }
+    if fades_in(event, span) {
+        return false;
+    }
+    !fades_out(event, span)
+}
+
+// The same where no fade acts and the channel has all the places: the samples are added in one pass.
+fn add_plain(
+    event: Event,
+    span: Span,
+    s: usize,
+    z: usize,
+    pool: &[f32],
+    channel: &mut [f32],
+    places: Placings,
+) -> Processed
+    requires { ⌜ s ≤ z ⌝ ∗ ⌜ z ≤ length (now channel) ⌝ ∗ ⌜ (fadesIn (asSpan span) event || fadesOut (asSpan span) event) ≡ false ⌝ }
+    ensures { λ r. ⌜ (r ≡ runProcessed (asSpan span) s z event places) × (now (channel .exit) ≡ addAt s (fadedRun (now (pool .entry)) (asSpan span) s z event) (now (channel .entry))) ⌝ }
+{
+    let unit = event.unit;
+    let gain = event.gain;
+    let unit = runs::add_source(&mut channel[s..z], unit, pool, gain);
+    let mut after = event;
+    after.unit = unit;
+    Processed {
+        event: after,
+        places: places,
+    }
+}
+
 // One event of a block: its run is added to a channel, it comes back with its source moved on, and its places are counted.
 pub fn process_event(
     event: Event,
@@ -355,6 +413,9 @@ pub fn process_event(
     let how = end.how;
     let places = places.add(how);
     if s < z {
+        if is_plain(event, span, z, channel.len()) {
+            return add_plain(event, span, s, z, pool, channel, places);
+        }
         let m = z - s;
         let mut row = [0.0f32; 64];
         return add_run(event, span, s, z, pool, &mut row[0..m], channel, places);

@@ -57,16 +57,23 @@ walk-copy d xs at (a ∷ l) b =
     let e : drop at xs ≡ getD xs at d ∷ drop (suc at) xs = drop-cons xs at d (omega arith) in
     rw (e, add-one) (ap (λ (r : List _). getD xs at d ∷ r) (walk-copy d xs (suc at) l (omega arith)))
 
+-- the first n of l made ys, and then what is left made by f
+pub then-rest : {A : Type 0} (f : List A → List A) (n : ℕ) (ys l : List A) → n ≤ length l → length ys ≡ n
+    → take n (ys ++ drop n l) ++ (f (take (length l - n) (drop n (ys ++ drop n l))) ++ drop (length l - n) (drop n (ys ++ drop n l))) ≡ ys ++ f (drop n l)
+then-rest f n ys l h e =
+    let j : length (drop n l) ≡ length l - n = length-drop n l in
+    let k : take (length l - n) (drop n l) ≡ drop n l = take-all (length l - n) (drop n l) (omega arith) in
+    let b : length (drop n l) ≤ length l - n = omega arith in
+    let w : drop (length l - n) (drop n l) ≡ [] = drop-of-length-le (drop n l) b in
+    rw (take-at ys (drop n l) n e, drop-at ys (drop n l) n e, k, w, append-nil)
+
 -- the first n of l made ys, and then what is left made z
 pub then-same : {A : Type 0} (z : A) (n : ℕ) (ys l : List A) → n ≤ length l → length ys ≡ n
     → take n (ys ++ drop n l) ++ (replicate (length (take (length l - n) (drop n (ys ++ drop n l)))) z ++ drop (length l - n) (drop n (ys ++ drop n l)))
     ≡ ys ++ replicate (length l - n) z
 then-same z n ys l h e =
-    let j : length (drop n l) ≡ length l - n = length-drop n l in
-    let k : take (length l - n) (drop n l) ≡ drop n l = take-all (length l - n) (drop n l) (omega arith) in
-    let b : length (drop n l) ≤ length l - n = omega arith in
-    let w : drop (length l - n) (drop n l) ≡ [] = drop-of-length-le (drop n l) b in
-    rw (take-at ys (drop n l) n e, drop-at ys (drop n l) n e, k, w, j, append-nil)
+    then-rest (λ (m : List _). replicate (length m) z) n ys l h e
+    ∙ ap (λ (k : ℕ). ys ++ replicate k z) (length-drop n l)
 
 -- ---- the first n of l are the first m, where m is n cut to l's length
 pub take-cut : {A : Type 0} (n m : ℕ) (l : List A) → m ≡ min n (length l) → take m l ≡ take n l

@@ -2,3 +2,4 @@ pub mod Walk
 pub mod Turns
 pub mod Samples
 pub mod Channels
+pub mod Adding

@@ -9,6 +9,8 @@ use Rattle.event.specs.declared.Fade.{Fade}
 use Rattle.event.specs.Fades.{curve}
 use Rattle.event.specs.Runs.{made}
 use Rattle.floats.specs.Arithmetic.{_+ˢ_, _-ˢ_, _×ˢ_, zeroᶠ, oneᶠ}
+use Rattle.ledger.specs.BlockSamples.{gained}
+use Rattle.runs.specs.declared.ClipPart.{ClipPart}
 use Rattle.runs.specs.Walk.{zipped}
 
 -- x, x + step, ..
@@ -35,3 +37,13 @@ abbrev pub clipRun : (pool : List Float) → (offset length place k : ℕ) → L
 clipRun pool offset length place k =
     let m = clipHas pool offset length place k in
     take m (drop (offset + place) pool) ++ replicate (k - m) zeroᶠ
+
+-- the same as the code decides it, of a pool with so many samples
+abbrev pub clipPart : (k pool offset length place : ℕ) → ClipPart
+clipPart k pool offset length place =
+    let left = min k (length - place) in
+    record { left = left; has = min left (pool - (offset + place)); from = min (offset + place) pool }
+
+-- a run at a gain is added
+abbrev pub added : (gain : Float) → (run l : List Float) → List Float
+added gain run l = zipped (λ a y. a +ˢ y) (gained gain run) l

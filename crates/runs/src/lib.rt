@@ -11,7 +11,7 @@ ghost use Rattle.floats.specs.Arithmetic.{_+ˢ_, _-ˢ_, zeroᶠ, oneᶠ};
 ghost use Rattle.ledger.specs.BlockSamples.{gained, fadedAll, faded, addAt, overlay};
 ghost use Rattle.runs.specs.Walk.{zipped};
 ghost use Rattle.runs.specs.Samples as Samples;
-ghost use Rattle.runs.specs.Samples.{chain, phasesOf, shaped, clipRun};
+ghost use Rattle.runs.specs.Samples.{chain, phasesOf, shaped, clipRun, clipPart, added};
 use event::Fade;
 use event::Source;
 use event::Unit;
@@ -78,16 +78,32 @@ fn copy_first(s: &mut [f32], xs: &[f32], at: usize, n: usize)
     set_all(&mut s[n..k], 0.0);
 }
 
+// Of a clip's next n samples: how many the clip has, how many of these the pool has, and from which place on.
+struct ClipPart {
+    left: usize,
+    has: usize,
+    from: usize,
+}
+
+fn clip_part(n: usize, pool: usize, offset: u32, length: u32, place: u32) -> ClipPart
+    ensures { λ r. ⌜ r ≡ clipPart n pool offset length place ⌝ }
+{
+    let left = least(n, minus(length as usize, place as usize));
+    let at = offset as usize + place as usize;
+    ClipPart {
+        left,
+        has: least(left, minus(pool, at)),
+        from: least(at, pool),
+    }
+}
+
 // A clip's samples from its place on, 0 past the clip and past the pool, and its place after them.
 fn clip(s: &mut [f32], pool: &[f32], offset: u32, length: u32, place: u32) -> u32
     ensures { λ r. ⌜ (now (s .exit) ≡ clipRun (now (pool .entry)) offset length place (List.length (now (s .entry)))) × (r ≡ place + min (List.length (now (s .entry))) (length - place)) ⌝ }
 {
-    let left = least(s.len(), minus(length as usize, place as usize));
-    let at = offset as usize + place as usize;
-    let has = least(left, minus(pool.len(), at));
-    let from = least(at, pool.len());
-    copy_first(s, pool, from, has);
-    place + left as u32
+    let part = clip_part(s.len(), pool.len(), offset, length, place);
+    copy_first(s, pool, part.from, part.has);
+    place + part.left as u32
 }
 
 // The source's next samples, as many as the slice has, and the unit after them.
@@ -107,6 +123,86 @@ pub fn fill_run(s: &mut [f32], unit: Unit, pool: &[f32]) -> Unit
         }
         Source::Clip(offset, length) => {
             after.place = clip(s, pool, offset, length, unit.place);
+            after
+        }
+    }
+}
+
+// ---- what a source gives, at a gain, added to a run in one pass
+
+// x is added to every sample.
+fn add_level(s: &mut [f32], x: f32)
+    ensures { λ _. ⌜ now (s .exit) ≡ map (λ a. a +ˢ x) (now (s .entry)) ⌝ }
+{
+    let mut i = 0;
+    while i < s.len() {
+        s[i] = s[i] + x;
+        i += 1;
+    }
+}
+
+// A ramp's samples at a gain are added; the value after them.
+fn add_ramp(s: &mut [f32], value: f32, step: f32, gain: f32) -> f32
+    ensures { λ r. ⌜ (now (s .exit) ≡ added gain (chain step value (length (now (s .entry)))) (now (s .entry))) × (r ≡ steps (λ y. y +ˢ step) value (length (now (s .entry)))) ⌝ }
+{
+    let mut next = value;
+    let mut i = 0;
+    while i < s.len() {
+        s[i] = s[i] + next * gain;
+        next = next + step;
+        i += 1;
+    }
+    next
+}
+
+// The samples of xs from place `at` at a gain are added.
+fn add_from(s: &mut [f32], xs: &[f32], at: usize, gain: f32)
+    requires { ⌜ at + length (now s) ≤ length (now xs) ⌝ }
+    ensures { λ _. ⌜ now (s .exit) ≡ added gain (take (length (now (s .entry))) (drop at (now (xs .entry)))) (now (s .entry)) ⌝ }
+{
+    let mut i = 0;
+    while i < s.len() {
+        s[i] = s[i] + xs[at + i] * gain;
+        i += 1;
+    }
+}
+
+// To the first n samples those of xs from place `at` at a gain are added, to the rest 0 at that gain.
+fn add_first(s: &mut [f32], xs: &[f32], at: usize, n: usize, gain: f32)
+    requires { ⌜ (n ≤ length (now s)) × (at + n ≤ length (now xs)) ⌝ }
+    ensures { λ _. ⌜ now (s .exit) ≡ added gain (take n (drop at (now (xs .entry))) ++ replicate (length (now (s .entry)) - n) zeroᶠ) (now (s .entry)) ⌝ }
+{
+    let k = s.len();
+    add_from(&mut s[0..n], xs, at, gain);
+    add_level(&mut s[n..k], 0.0 * gain);
+}
+
+// A clip's samples from its place on at a gain are added; its place after them.
+fn add_clip(s: &mut [f32], pool: &[f32], offset: u32, length: u32, place: u32, gain: f32) -> u32
+    ensures { λ r. ⌜ (now (s .exit) ≡ added gain (clipRun (now (pool .entry)) offset length place (List.length (now (s .entry)))) (now (s .entry))) × (r ≡ place + min (List.length (now (s .entry))) (length - place)) ⌝ }
+{
+    let part = clip_part(s.len(), pool.len(), offset, length, place);
+    add_first(s, pool, part.from, part.has, gain);
+    place + part.left as u32
+}
+
+// The source's next samples at a gain are added, as many as the slice has; the unit after them.
+pub fn add_source(s: &mut [f32], unit: Unit, pool: &[f32], gain: f32) -> Unit
+    ensures { λ r. ⌜ (now (s .exit) ≡ added gain (nextSamples (now (pool .entry)) unit (length (now (s .entry)))) (now (s .entry))) × (r ≡ advancedBy unit (length (now (s .entry)))) ⌝ }
+{
+    let mut after = unit;
+    let source = unit.source;
+    match source {
+        Source::Held(level) => {
+            add_level(s, level * gain);
+            after
+        }
+        Source::Ramp(_, step) => {
+            after.value = add_ramp(s, unit.value, step, gain);
+            after
+        }
+        Source::Clip(offset, length) => {
+            after.place = add_clip(s, pool, offset, length, unit.place, gain);
             after
         }
     }
