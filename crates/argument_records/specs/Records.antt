@@ -5,7 +5,8 @@ use mathlib.Core.List.{List, [], _∷_}
 use lib.Ieee.{Float, binary32, binary64, ofBits, toBits}
 use Rattle.tape.specs.Fields.{field}
 use Rattle.tape_writer.specs.declared.Arguments.{Arguments}
-use Rattle.tape_writer.specs.Writing.{Part, word, long, joined, leBytes}
+use Rattle.little_endian.specs.LowBytes.{littleEndian}
+use Rattle.little_endian.specs.Fields.{Part, word, long, single, double, joined}
 
 unfoldable pub argumentsOf : List ℕ → Arguments
 argumentsOf b = record {
@@ -27,13 +28,6 @@ argumentsOf b = record {
   size = field b 104 8;
   «sample_rate» = ofBits binary64 (field b 112 8);
 }
-
--- a float's field
-abbrev double : Float → Part
-double x = long (toBits binary64 x)
-
-abbrev single : Float → Part
-single x = word (toBits binary32 x)
 
 unfoldable pub recordParts : Arguments → List Part
 recordParts a =

@@ -1,32 +1,25 @@
 -- One turn of each loop that puts bytes. Assumes nothing.
-use mathlib.Core.Path.{_≡_, refl, ap, _∙_}
-use mathlib.Core.Bool.{true, false}
+use mathlib.Core.Path.{_≡_, ap}
 use mathlib.Core.List.{List, [], _∷_, _++_}
-use Prim.Native.Nat.{ℕ, zero, suc, _+_, _-_, _/_, _%_, _≤_, _<_}
+use Prim.Native.Nat.{ℕ, suc, _+_, _-_, _≤_, _<_}
 use native.Mathlib.Omega.{arith}
-use borrow.Author.Tests.{lt-ltb, le-ltb}
+use borrow.Author.Tests.{lt-ltb, le-ltb, le-leb, lt-leb}
 use lib.ListN.{length, drop, getD, drop-of-length-le}
 use lib.Seq.{drop-cons, sets}
+use Rattle.listing.specs.Pieces.{text, add}
 use Rattle.listing.specs.Putting.{Putting, begin, further, ended, same-long, left-is, place-is, place-left}
-use Rattle.tape_writer.specs.Writing.{leBytes}
+use Rattle.little_endian.specs.LowBytes.{littleEndian, length-little}
 use Rattle.little_endian.specs.Fields.{fieldsIn}
 
--- ---- a number's bytes
-pub bytes-long : (w n : ℕ) → length (leBytes w n) ≡ w
-unfolding leBytes
-bytes-long zero n = refl
-bytes-long (suc w) n = ap suc (bytes-long w (n / 256))
+-- ---- a piece at a place
+module _ (piece out : List ℕ) (at : ℕ) where
+  pub no-place : length out < at + length piece → text out at ≡ add piece (text out at)
+  unfolding add
+  no-place h = rw (lt-leb (at + length piece) (length out) h)
 
-pub bytes-start : (w n : ℕ) → leBytes w n ≡ leBytes (w - 0) n
-bytes-start w n = let q : w - 0 ≡ w = omega arith in rw q
-
-pub bytes-step : (w n i : ℕ) → i < w → leBytes (w - i) n ≡ (n % 256 ∷ []) ++ leBytes (w - (i + 1)) (n / 256)
-unfolding leBytes
-bytes-step w n i h = let q : w - i ≡ suc (w - (i + 1)) = omega arith in rw q
-
-pub bytes-none : (w n i : ℕ) → w ≤ i → leBytes (w - i) n ≡ []
-unfolding leBytes
-bytes-none w n i h = let q : w - i ≡ 0 = omega arith in rw q
+  pub placed : at + length piece ≤ length out → (out′ : List ℕ) (at′ : ℕ) → out′ ≡ sets out at piece → at′ ≡ at + length piece → text out′ at′ ≡ add piece (text out at)
+  unfolding add
+  placed h out′ at′ p q = rw (le-leb (at + length piece) (length out) h, p, q)
 
 -- ---- the fields from i on
 module _ (room : ℕ) (ws ns : List ℕ) (i : ℕ) where
@@ -45,7 +38,7 @@ module _ (room : ℕ) (ws ns : List ℕ) (i : ℕ) where
   unfolding fieldsIn
   no-room h k l = rw (drop-cons ws i 0 h, drop-cons ns i 0 k, lt-ltb room (getD ws i 0) l)
 
-  pub one-more : i < length ws → i < length ns → getD ws i 0 ≤ room → rest room i ≡ leBytes (getD ws i 0) (getD ns i 0) ++ rest (room - getD ws i 0) (i + 1)
+  pub one-more : i < length ws → i < length ns → getD ws i 0 ≤ room → rest room i ≡ littleEndian (getD ws i 0) (getD ns i 0) ++ rest (room - getD ws i 0) (i + 1)
   unfolding fieldsIn
   one-more h k l =
       let p : i + 1 ≡ suc i = omega arith in
@@ -72,13 +65,13 @@ module _ (ws ns l : List ℕ) where
 
   -- one field more
   pub turn : {now : List ℕ} {at i : ℕ} → Fields now at i → i < length ws → i < length ns → getD ws i 0 ≤ length now - at
-      → (now′ : List ℕ) → now′ ≡ sets now at (leBytes (getD ws i 0) (getD ns i 0)) → Fields now′ (at + getD ws i 0) (i + 1)
+      → (now′ : List ℕ) → now′ ≡ sets now at (littleEndian (getD ws i 0) (getD ns i 0)) → Fields now′ (at + getD ws i 0) (i + 1)
   turn {now} {at} {i} f h k room now′ e =
       let s = same-long (f .put) in
       let w = getD ws i 0 in
-      let b = bytes-long w (getD ns i 0) in
+      let b = length-little w (getD ns i 0) in
       let z : length l - at - w ≡ length l - (at + w) = omega arith in
-      let p = further (leBytes w (getD ns i 0)) (fieldsIn (length l - at - w) (drop (i + 1) ws) (drop (i + 1) ns)) (left-is (f .put) (one-more (length l - at) ws ns i h k (omega arith))) now′ e in
+      let p = further (littleEndian w (getD ns i 0)) (fieldsIn (length l - at - w) (drop (i + 1) ws) (drop (i + 1) ns)) (left-is (f .put) (one-more (length l - at) ws ns i h k (omega arith))) now′ e in
       record {
         put = place-is (left-is p (ap (λ (r : ℕ). fieldsIn r (drop (i + 1) ws) (drop (i + 1) ns)) z)) (ap (λ (j : ℕ). at + j) b);
         within = let g = f .within in omega arith;

@@ -1,1 +1,3 @@
+pub mod LowBytes
 pub mod Fields
+pub mod Samples

@@ -1,22 +1,26 @@
-// Numbers put down as little-endian fields in a lent buffer.
+// Numbers and samples put down as little-endian bytes in a lent buffer.
 ghost use mathlib.Core.Path.{_≡_};
 ghost use Prim.Native.Nat.{_+_, _≤_};
 ghost use lib.ListN.{length};
 ghost use lib.Seq.{sets};
-ghost use Rattle.tape_writer.specs.Writing.{leBytes};
+ghost use Rattle.listing.specs.Pieces.{text, add};
+ghost use Rattle.little_endian.specs.LowBytes.{littleEndian};
 ghost use Rattle.little_endian.specs.Fields.{fieldsIn};
+ghost use Rattle.little_endian.specs.Samples.{sampleBytes, bytesOf};
 
 // The low `width` bytes of n, the lowest first.
 fn put_word(n: u64, width: usize, out: &mut [u8], at: usize)
     requires { ⌜ at + width ≤ length (now out) ⌝ }
-    ensures { λ _. ⌜ now (out .exit) ≡ sets (now (out .entry)) at (leBytes width n) ⌝ }
+    ensures { λ _. ⌜ now (out .exit) ≡ sets (now (out .entry)) at (littleEndian width n) ⌝ }
 {
     let mut rest = n;
-    let mut i: usize = 0;
-    while i < width {
-        out[at + i] = (rest % 256) as u8;
+    let mut to = at;
+    let mut left = width;
+    while left > 0 {
+        out[to] = (rest % 256) as u8;
         rest = rest / 256;
-        i = i + 1;
+        to = to + 1;
+        left = left - 1;
     }
 }
 
@@ -40,4 +44,40 @@ pub fn put_fields(widths: &[usize], numbers: &[u64], out: &mut [u8]) -> usize
         i = i + 1;
     }
     at
+}
+
+// A sample's four bytes from a place on; answers the next free place. Where they have no room nothing is put, and the place stays.
+pub fn put_sample(sample: f32, out: &mut [u8], at: usize) -> usize
+    ensures { λ r. ⌜ text (now (out .exit)) r ≡ add (sampleBytes sample) (text (now (out .entry)) at) ⌝ }
+{
+    if out.len() < at {
+        return at;
+    }
+    if out.len() - at < 4 {
+        return at;
+    }
+    let bits = float_bits::f32_to_bits(sample);
+    put_word(bits as u64, 4, out, at);
+    at + 4
+}
+
+// The same for samples one behind the other: all of them or none.
+pub fn put_samples(samples: &[f32], out: &mut [u8], at: usize) -> usize
+    ensures { λ r. ⌜ text (now (out .exit)) r ≡ add (bytesOf (now (samples .entry))) (text (now (out .entry)) at) ⌝ }
+{
+    if out.len() < at {
+        return at;
+    }
+    if (out.len() - at) / 4 < samples.len() {
+        return at;
+    }
+    let mut to = at;
+    let mut i: usize = 0;
+    while i < samples.len() {
+        let bits = float_bits::f32_to_bits(samples[i]);
+        put_word(bits as u64, 4, out, to);
+        to = to + 4;
+        i = i + 1;
+    }
+    to
 }

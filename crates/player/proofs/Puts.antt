@@ -1,24 +1,16 @@
--- One turn of each loop that puts bytes. Assumes nothing.
+-- One turn of the loop that puts the channels. Assumes nothing.
 use mathlib.Core.Path.{_≡_, sym, ap, _∙_, subst}
-use mathlib.Core.List.{List, [], _∷_, _++_}
-use Prim.Native.Nat.{ℕ, zero, suc, _+_, _-_, _*_, _/_, _%_, _≤_, _<_}
+use mathlib.Core.List.{List, _++_}
+use Prim.Native.Nat.{ℕ, zero, suc, _+_, _-_, _*_, _≤_, _<_}
 use native.Mathlib.Nat.{add-sub-cancel-left}
-use native.Mathlib.Numerals.{add-one}
 use native.Mathlib.Omega.{arith}
-use lib.Ieee.{Float, binary32, toBits}
-use lib.ListN.{length, getD, take, drop, length-drop}
-use lib.Seq.{sets, drop-cons, drop-drop, length-take-le}
-use Rattle.listing.specs.Putting.{Putting, begin, further, ended, left-is, place-is}
-use Rattle.player.specs.Bytes.{littleEndian, bytesOf, length-bytes, bytes-append, channelsOf}
-
-pub little-step : (k n : ℕ) → 0 < k → littleEndian k n ≡ (n % 256 ∷ []) ++ littleEndian (k - 1) (n / 256)
-unfolding littleEndian
-little-step zero n h = absurd (omega arith)
-little-step (suc k) n h = let e : k ≡ suc k - 1 = omega arith in ap (λ (j : ℕ). n % 256 ∷ littleEndian j (n / 256)) e
-
-pub bytes-step : (xs : List Float) (i : ℕ) (d : Float) → i < length xs → bytesOf (drop i xs) ≡ littleEndian 4 (toBits binary32 (getD xs i d)) ++ bytesOf (drop (i + 1) xs)
-unfolding bytesOf
-bytes-step xs i d h = ap bytesOf (drop-cons xs i d h) ∙ ap (λ (j : ℕ). littleEndian 4 (toBits binary32 (getD xs i d)) ++ bytesOf (drop j xs)) (sym (add-one i))
+use lib.Ieee.{Float}
+use lib.ListN.{length, take, drop, length-drop}
+use lib.Seq.{sets, drop-drop, length-take-le}
+use Rattle.listing.specs.Pieces.{text, add}
+use Rattle.listing.specs.Putting.{Putting, begin, further, ended, same-long, left-is, place-is}
+use Rattle.little_endian.specs.Samples.{put-there}
+use Rattle.player.specs.Bytes.{bytesOf, length-bytes, bytes-append, channelsOf}
 
 channels-step : (c n w : ℕ) (xs : List Float) → 0 < c → bytesOf (channelsOf c n w xs) ≡ bytesOf (take n xs) ++ bytesOf (channelsOf (c - 1) n w (drop w xs))
 unfolding channelsOf
@@ -58,18 +50,22 @@ module _ (xs : List Float) (channels each stride : ℕ) (out₀ : List ℕ) (at 
       rw add-sub-cancel-left (length-take-le each (drop from xs) (simp length-drop (omega arith)))
 
   pub turn : {out : List ℕ} {from to left : ℕ} → Channels out from to left → 0 < left
-      → (out′ : List ℕ) → out′ ≡ sets out to (bytesOf (take (from + each - from) (drop from xs)))
-      → Channels out′ (from + stride) (to + 4 * each) (left - 1)
-  turn {out} {from} {to} {left} c h out′ e =
+      → (out′ : List ℕ) (to′ : ℕ) → text out′ to′ ≡ add (bytesOf (take (from + each - from) (drop from xs))) (text out to)
+      → Channels out′ (from + stride) to′ (left - 1)
+  turn {out} {from} {to} {left} c h out′ to′ e =
       let row = bytesOf (take (from + each - from) (drop from xs)) in
       let rest = bytesOf (channelsOf (left - 1) each stride (drop (from + stride) xs)) in
       let k : length row ≡ 4 * each = length-bytes (take (from + each - from) (drop from xs)) ∙ ap (λ (j : ℕ). 4 * j) (next-long c h) in
+      let l = same-long (c .put) in
+      let f = next-fits c h in
+      let p = put-there row out out′ to to′ e (omega arith) in
+      let q = p .1 in
       let s : bytesOf (channelsOf left each stride (drop from xs)) ≡ row ++ rest = rw (add-sub-cancel-left, ← drop-drop stride from xs) (channels-step left each stride (drop from xs) h) in
       record {
-        put = place-is (further row rest (left-is (c .put) s) out′ e) (ap (λ (j : ℕ). to + j) k);
+        put = place-is (further row rest (left-is (c .put) s) out′ (p .0)) (sym q);
         within = c .within;
         given = one-less left from stride (length xs) h (c .given);
-        room = let p = one-less left to (4 * each) (length out₀) h (omega arith) in omega arith;
+        room = let r = one-less left to (4 * each) (length out₀) h (omega arith) in omega arith;
       }
 
   pub finish : {out : List ℕ} {from to left : ℕ} → Channels out from to left → left ≤ 0 → out ≡ sets out₀ at (bytesOf (channelsOf channels each stride xs))

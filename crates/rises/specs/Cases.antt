@@ -6,7 +6,9 @@ use lib.Dec.{ltb}
 use Rattle.rises.specs.Way.{floorLog2, wayUp, laterAt}
 use lib.Ieee.{toBits}
 use Rattle.floats.specs.Arithmetic.{whole}
-use Rattle.tape_writer.specs.Writing.{bytesBy, bodyParts, joined, leBytes, sourceFrom}
+use Rattle.little_endian.specs.LowBytes.{littleEndian}
+use Rattle.little_endian.specs.Fields.{joined}
+use Rattle.tape_writer.specs.Writing.{bytesBy, bodyParts, sourceFrom}
 use Rattle.rises.specs.Totals.{bound}
 use Rattle.rises.specs.Arrangement.{kthPush}
 use Rattle.rises.specs.Words.{decimal, countOf}
@@ -66,5 +68,5 @@ refused = refl
 tape-of-one : tapeOf 1 ≡ 0 ∷ 1 ∷ 0 ∷ 1 ∷ 0 ∷ 0 ∷ 0 ∷ 0 ∷ 0 ∷ 0 ∷ 0
     ∷ 1 ∷ 0 ∷ 0 ∷ 0 ∷ 0 ∷ 0 ∷ 0 ∷ 0 ∷ 0 ∷ 0 ∷ 0 ∷ 0 ∷ 0 ∷ 0 ∷ 0 ∷ 240 ∷ 63 ∷ 0 ∷ 0 ∷ 0 ∷ 0 ∷ 0 ∷ 0 ∷ 0 ∷ 0 ∷ 0 ∷ 0 ∷ 0 ∷ 0 ∷ 0 ∷ 0 ∷ 0 ∷ 0
     ∷ 1 ∷ 0 ∷ 0 ∷ 0 ∷ 128 ∷ 63 ∷ 0 ∷ 0 ∷ 0 ∷ 0 ∷ []
-unfolding tapeOf bytesBy bodyParts joined leBytes sourceFrom kthPush whole toBits
+unfolding tapeOf bytesBy bodyParts joined littleEndian sourceFrom kthPush whole toBits
 tape-of-one = refl

@@ -22,7 +22,9 @@ use Rattle.tape_writer.specs.declared.Arguments.{Arguments}
 use Rattle.tape_writer.specs.declared.Written.{Written}
 use Rattle.tape_writer.specs.declared.Written.the-variants.{Next, Refused}
 use Rattle.tape_writer.specs.Claim.{argumentsOf, unused}
-use Rattle.tape_writer.specs.Writing.{callBy, pushFrom, editFrom, callFrom, leBytes, joined, sourceFrom, bodyParts, bytesBy, bytesOf, undefinedBy, tooShort, answered, bufferAfter}
+use Rattle.little_endian.specs.LowBytes.{littleEndian}
+use Rattle.little_endian.specs.Fields.{joined}
+use Rattle.tape_writer.specs.Writing.{callBy, pushFrom, editFrom, callFrom, sourceFrom, bodyParts, bytesBy, bytesOf, undefinedBy, tooShort, answered, bufferAfter}
 
 -- ---- arguments
 
@@ -71,11 +73,11 @@ one = fin false 1 (pos 0)
 
 -- what is put down, and what a buffer reads after one writing
 unfoldable pub put : Arguments → List ℕ
-unfolding bytesBy bodyParts joined leBytes sourceFrom toBits
+unfolding bytesBy bodyParts joined littleEndian sourceFrom toBits
 put a = bytesOf a
 
 unfoldable pub after : Arguments → (buf : List ℕ) (at : ℕ) → List ℕ
-unfolding bufferAfter answered undefinedBy pushKind tooShort sizeOf sizes bytesBy bodyParts joined leBytes sourceFrom toBits
+unfolding bufferAfter answered undefinedBy pushKind tooShort sizeOf sizes bytesBy bodyParts joined littleEndian sourceFrom toBits
 after a buf at = bufferAfter a buf at
 
 unfoldable pub answer : Arguments → (buf : List ℕ) (at : ℕ) → Written

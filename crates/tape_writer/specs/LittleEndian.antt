@@ -7,14 +7,14 @@ use native.Mathlib.Omega.{arith}
 use lib.Dec.{lit<}
 use lib.ListN.{length, take}
 use Rattle.tape.specs.Fields.{fromLittleEndian, Bytes, bytes-tail}
-use Rattle.tape_writer.specs.Writing.{leBytes}
+use Rattle.little_endian.specs.LowBytes.{littleEndian}
 
 -- ---- put down, then read
 higher-below : (w n : ℕ) → n < 256 ^ suc w → n / 256 < 256 ^ w
 higher-below w n h = div-lt-iff-lt-mul (lit< tt) .1 (omega (arith, h))
 
-pub le-bytes : (w n : ℕ) → n < 256 ^ w → fromLittleEndian (leBytes w n) ≡ n
-unfolding fromLittleEndian leBytes
+pub le-bytes : (w n : ℕ) → n < 256 ^ w → fromLittleEndian (littleEndian w n) ≡ n
+unfolding fromLittleEndian littleEndian
 le-bytes zero n h = omega arith
 le-bytes (suc w) n h = ap (λ (m : ℕ). n % 256 + 256 * m) (le-bytes w (n / 256) (higher-below w n h)) ∙ mod-add-div n 256
 
@@ -25,8 +25,8 @@ low-byte b m h = omega arith
 high-bytes : (b m : ℕ) → b < 256 → (b + 256 * m) / 256 ≡ m
 high-bytes b m h = omega arith
 
-pub bytes-le : (w : ℕ) (bs : List ℕ) → Bytes bs → w ≤ length bs → leBytes w (fromLittleEndian (take w bs)) ≡ take w bs
-unfolding fromLittleEndian leBytes
+pub bytes-le : (w : ℕ) (bs : List ℕ) → Bytes bs → w ≤ length bs → littleEndian w (fromLittleEndian (take w bs)) ≡ take w bs
+unfolding fromLittleEndian littleEndian
 bytes-le zero bs h l = refl
 bytes-le (suc w) [] h l = absurd (omega arith)
 bytes-le (suc w) (b ∷ bs) h l =

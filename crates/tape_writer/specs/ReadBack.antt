@@ -23,7 +23,9 @@ use Rattle.tape.specs.declared.reader.Read.the-variants.{Record}
 use Rattle.tape.specs.declared.reader.Call.the-variants.{Create, Push, PushRelative, PushDuration, Edit, EditRelative, Process, SetSampleRate}
 use Rattle.tape_writer.specs.declared.Arguments.{Arguments}
 use Rattle.tape_writer.specs.declared.Written.the-variants.{Next, Refused}
-use Rattle.tape_writer.specs.Writing.{sourceFrom, pushFrom, editFrom, callBy, callFrom, leBytes, joined, byte, word, long, pushParts, bodyParts, bytesBy, bytesOf, undefinedBy, undefined, tooShort, answered, bufferAfter}
+use Rattle.little_endian.specs.LowBytes.{littleEndian}
+use Rattle.little_endian.specs.Fields.{joined, byte, word, long}
+use Rattle.tape_writer.specs.Writing.{sourceFrom, pushFrom, editFrom, callBy, callFrom, pushParts, bodyParts, bytesBy, bytesOf, undefinedBy, undefined, tooShort, answered, bufferAfter}
 use Rattle.tape_writer.specs.Claim.{Typed, ReadsBack}
 use Rattle.tape_writer.specs.LittleEndian.{le-bytes}
 use Rattle.tape_writer.specs.Sizes.{long-as, kind-known, some-bytes, accepted, room-of}
@@ -112,7 +114,7 @@ edit-same bs a t n e o = simp (n, double-read bs 9 (a .«end_time») (t .end) e,
 
 -- ---- the fields of what was put down, whatever follows
 gain-field : (k s e f o c u v w x : ℕ) (rest : List ℕ) → x < 2 ^ 32 → (g : Bool) → g ≡ true → field (joined (byte k ∷ long s ∷ long e ∷ long f ∷ long o ∷ byte c ∷ byte u ∷ word v ∷ word w ∷ cond g (word x ∷ []) []) ++ rest) 43 4 ≡ x
-unfolding joined leBytes field
+unfolding joined littleEndian field
 gain-field k s e f o c u v w x rest h true p = le-bytes 4 x h
 gain-field k s e f o c u v w x rest h false p = absurd (true≢false (sym p))
 
@@ -121,7 +123,7 @@ module _ (a : Arguments) (t : Typed a) (rest : List ℕ) where
   pushed k = joined (byte k ∷ pushParts k a) ++ rest
 
   push-fields : (k : ℕ) → k < 13 → a .curve ≤ 1 → a .source ≤ 2 → PushFields (pushed k) k a
-  unfolding joined leBytes field pushed
+  unfolding joined littleEndian field pushed
   push-fields k h c s = record {
     kind = mod-eq-of-lt (omega arith);
     start = le-bytes 8 (toBits binary64 (a .«start_time»)) (toBits-lt binary64 (a .«start_time») (t .start));
@@ -151,7 +153,7 @@ module _ (a : Arguments) (t : Typed a) (rest : List ℕ) where
   Reads k = undefinedBy k a ≡ false → (unknown (eqb k 0) (bytesBy k a ++ rest) ≡ false) × (callOf (bytesBy k a ++ rest) ≡ callBy k a)
 
   reads-creation : Reads 0
-  unfolding unknown callOf callBy bytesBy bodyParts joined leBytes field undefinedBy
+  unfolding unknown callOf callBy bytesBy bodyParts joined littleEndian field undefinedBy
   reads-creation h =
       let d = defined (ltb 255 (a .channels)) (ltb-false 255 (a .channels)) h in
       let c = in-byte (a .channels) 255 (d .0) (lit< tt) in
@@ -168,7 +170,7 @@ module _ (a : Arguments) (t : Typed a) (rest : List ℕ) where
   push-read k h d = let b = defined-push d in push-same (pushed k) k a t (b .1) (push-fields k h (b .0) (b .1))
 
   reads-push : Reads 1 × Reads 2 × Reads 3 × Reads 10 × Reads 11 × Reads 12
-  unfolding unknown unknownPush pushKind callOf callBy bytesBy bodyParts joined leBytes undefinedBy pushed
+  unfolding unknown unknownPush pushKind callOf callBy bytesBy bodyParts joined littleEndian undefinedBy pushed
   reads-push = (
     λ h. (known-push (defined-push h .0) (defined-push h .1), ap Push (push-read 1 (lit< tt) h)),
     λ h. (known-push (defined-push h .0) (defined-push h .1), ap PushRelative (push-read 2 (lit< tt) h)),
@@ -179,7 +181,7 @@ module _ (a : Arguments) (t : Typed a) (rest : List ℕ) where
   )
 
   reads-edit : Reads 4 × Reads 5
-  unfolding unknown pushKind callOf callBy bytesBy bodyParts joined leBytes field
+  unfolding unknown pushKind callOf callBy bytesBy bodyParts joined littleEndian field
   reads-edit =
       let n = le-bytes 8 (a .number) (t .number) in
       let e = le-bytes 8 (toBits binary64 (a .«end_time»)) (toBits-lt binary64 (a .«end_time») (t .end)) in
@@ -187,7 +189,7 @@ module _ (a : Arguments) (t : Typed a) (rest : List ℕ) where
       (λ h. (refl, ap Edit (edit-same (bytesBy 4 a ++ rest) a t n e o)), λ h. (refl, ap EditRelative (edit-same (bytesBy 5 a ++ rest) a t n e o)))
 
   reads-others : Reads 6 × Reads 7 × Reads 8 × Reads 9
-  unfolding unknown pushKind callOf callBy bytesBy bodyParts joined leBytes field undefinedBy
+  unfolding unknown pushKind callOf callBy bytesBy bodyParts joined littleEndian field undefinedBy
   reads-others = (
     λ h. (refl, refl),
     λ h. (refl, ap Process (in-byte (a .size) 255 (ltb-false 255 (a .size) h) (lit< tt))),
@@ -201,7 +203,7 @@ module _ (a : Arguments) (t : Typed a) (rest : List ℕ) where
       (reads-others .1) (reads-others .2) (reads-others .3) (reads-push .3) (reads-push .4) (reads-push .5)
 
   kind-read : (k : ℕ) → k < 13 → kindOf (bytesBy k a ++ rest) ≡ k
-  unfolding bytesBy joined leBytes
+  unfolding bytesBy joined littleEndian
   kind-read k h = mod-eq-of-lt (omega arith)
 
   -- the record that begins the list is the one that was put down

@@ -11,11 +11,13 @@ use Rattle.tape.specs.Tape.{sizes, sizeOf}
 use Rattle.tape.specs.Kinds.{each-kind}
 use Rattle.tape_writer.specs.declared.Arguments.{Arguments}
 use Rattle.tape_writer.specs.declared.Written.the-variants.{Next, Refused}
-use Rattle.tape_writer.specs.Writing.{leBytes, joined, bodyParts, bytesBy, bytesOf, undefinedBy, undefined, tooShort, answered, laid, bufferAfter}
+use Rattle.little_endian.specs.LowBytes.{littleEndian}
+use Rattle.little_endian.specs.Fields.{joined}
+use Rattle.tape_writer.specs.Writing.{bodyParts, bytesBy, bytesOf, undefinedBy, undefined, tooShort, answered, laid, bufferAfter}
 
 -- ---- a record is as long as its kind says
 pub long-as : (k : ℕ) (a : Arguments) → k < 13 → length (bytesBy k a) ≡ sizeOf k
-unfolding bytesBy bodyParts joined leBytes sizeOf sizes
+unfolding bytesBy bodyParts joined littleEndian sizeOf sizes
 long-as k a h = each-kind (λ (n : ℕ). length (bytesBy n a) ≡ sizeOf n) refl refl refl refl refl refl refl refl refl refl refl refl refl k h
 
 pub kind-known : (k : ℕ) (a : Arguments) → undefinedBy k a ≡ false → k < 13
@@ -27,7 +29,7 @@ kind-known k a h = go (ltb 12 k) (ltb-false 12 k) _ h
     go false e r h = let z = e refl in omega arith
 
 pub some-bytes : (k : ℕ) (a : Arguments) → 0 < length (bytesBy k a)
-unfolding bytesBy joined leBytes
+unfolding bytesBy joined littleEndian
 some-bytes k a = omega arith
 
 -- ---- the tests in turn

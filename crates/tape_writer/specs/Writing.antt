@@ -1,11 +1,11 @@
 -- Document 02, Paper 6: "Given a record's kind, its call's arguments (01 to 03 take no gain) and a lent buffer, the writer puts down the record and returns the next free place, leaving every other byte." The kinds and their numbers are those of the reader (tape/specs/Tape). Assumes nothing.
-use Prim.Native.Nat.{ℕ, zero, suc, _+_, _-_, _/_, _%_}
+use Prim.Native.Nat.{ℕ, _+_, _-_}
 use mathlib.Core.Bool.{Bool, true, false, cond}
 use mathlib.Core.List.{List, [], _∷_, _++_}
 use lib.Dec.{ltb, eqb}
 use lib.ListN.{length, take, drop}
-use lib.Ieee.{Float, binary32, binary64, toBits}
 use Rattle.floats.specs.Arithmetic.{oneᶠ}
+use Rattle.little_endian.specs.Fields.{Part, byte, word, long, double, single, joined}
 use Rattle.event.specs.declared.Source.{Source}
 use Rattle.event.specs.declared.Source.the-variants.{Held, Ramp, Clip}
 use Rattle.event.specs.Numbers.{firstWord, secondWord}
@@ -57,35 +57,6 @@ abbrev pub callFrom : Arguments → Call
 callFrom a = callBy (a .kind) a
 
 -- ---- the record's bytes, in document 01's order
-
--- the w lowest bytes of a number, the lowest first: one definition for every width
-unfoldable pub leBytes : (w n : ℕ) → List ℕ
-leBytes zero n = []
-leBytes (suc w) n = n % 256 ∷ leBytes w (n / 256)
-
--- a field: a number in so many bytes
-pub record Part : Type 0 where
-  pub width : ℕ
-  pub number : ℕ
-
-unfoldable pub joined : List Part → List ℕ
-joined [] = []
-joined (p ∷ ps) = leBytes (p .width) (p .number) ++ joined ps
-
-abbrev pub byte : ℕ → Part
-byte n = record { width = 1; number = n }
-
-abbrev pub word : ℕ → Part
-word n = record { width = 4; number = n }
-
-abbrev pub long : ℕ → Part
-long n = record { width = 8; number = n }
-
-abbrev pub single : Float → Part
-single x = word (toBits binary32 x)
-
-abbrev pub double : Float → Part
-double x = long (toBits binary64 x)
 
 -- "00: channels, mode (0 All, 1 None), first number u64"
 abbrev pub creationParts : Arguments → List Part

@@ -28,7 +28,9 @@ use Rattle.tape.specs.declared.reader.Call.{Call}
 use Rattle.tape.specs.declared.reader.Call.the-variants.{Create, Push, PushRelative, PushDuration, Edit, EditRelative, Tick, Process, Reset, SetSampleRate}
 use Rattle.tape_writer.specs.declared.Arguments.{Arguments}
 use Rattle.tape_writer.specs.declared.Written.the-variants.{Next}
-use Rattle.tape_writer.specs.Writing.{sourceFrom, pushFrom, editFrom, callBy, leBytes, Part, joined, byte, word, long, bodyParts, bytesBy, bytesOf, undefinedBy, laid}
+use Rattle.little_endian.specs.LowBytes.{littleEndian}
+use Rattle.little_endian.specs.Fields.{Part, joined, byte, word, long}
+use Rattle.tape_writer.specs.Writing.{sourceFrom, pushFrom, editFrom, callBy, bodyParts, bytesBy, bytesOf, undefinedBy, laid}
 use Rattle.tape_writer.specs.Claim.{valueOf, stepOf, offsetOf, lengthOf, pushArguments, argumentsOf, Number, SourceNumbers, PushNumbers, Numbers, unusedWord, unused, WrittenAgain, WritesAgain}
 use Rattle.tape_writer.specs.LittleEndian.{bytes-le}
 use Rattle.tape_writer.specs.Sizes.{accepted, enough-rest}
@@ -46,7 +48,7 @@ joined-cut : (ws : List ℕ) (at : ℕ) (bs : List ℕ) → Bytes bs → at + to
 unfolding joined cut total field
 joined-cut [] at bs h l = refl
 joined-cut (w ∷ ws) at bs h l =
-    let first : leBytes w (fromLittleEndian (take w (drop at bs))) ≡ take w (drop at bs) = bytes-le w (drop at bs) (bytes-drop at bs h) (omega (arith, length-drop at bs)) in
+    let first : littleEndian w (fromLittleEndian (take w (drop at bs))) ≡ take w (drop at bs) = bytes-le w (drop at bs) (bytes-drop at bs h) (omega (arith, length-drop at bs)) in
     let others = joined-cut ws (at + w) bs h (omega arith) in
     let there : drop w (drop at bs) ≡ drop (at + w) bs = drop-drop w at bs in
     rw (first, others, take-add w (total ws) (drop at bs), there)

@@ -3,13 +3,11 @@ pub mod calls;
 
 ghost use mathlib.Core.Path.{_≡_};
 ghost use mathlib.Core.Bool.{cond};
-ghost use Prim.Native.Nat.{_+_, _<_, _≤_};
-ghost use lib.ListN.{length};
-ghost use lib.Seq.{sets};
+ghost use Prim.Native.Nat.{_<_};
+ghost use Rattle.little_endian.specs.Fields.{fieldsOf};
 ghost use Rattle.event.specs.Numbers.{firstWord, secondWord};
 ghost use Rattle.tape.specs.Tape.{gainKind, pushKind, sizeOf};
-ghost use Rattle.tape_writer.specs.Writing.{leBytes, bytesOf, undefined, answered, bufferAfter, sourceFrom};
-ghost use Rattle.tape_writer.specs.Parts.{joinedOf};
+ghost use Rattle.tape_writer.specs.Writing.{bytesOf, undefined, answered, bufferAfter, sourceFrom};
 use float_bits::f32_to_bits;
 use float_bits::f64_to_bits;
 use tape::reader;
@@ -107,7 +105,7 @@ fn gain_width(kind: u8) -> usize
 
 fn parts_of(a: Arguments) -> Parts
     requires { ⌜ a .kind < 13 ⌝ }
-    ensures { λ r. ⌜ joinedOf (r .widths) (r .numbers) ≡ bytesOf a ⌝ }
+    ensures { λ r. ⌜ fieldsOf (r .widths) (r .numbers) ≡ bytesOf a ⌝ }
 {
     let kind = a.kind;
     let k = reader::plain_kind(kind as u8);
@@ -173,35 +171,6 @@ fn parts_of(a: Arguments) -> Parts
     }
 }
 
-// The number's lowest bytes, the lowest first, from a place on.
-fn put(buf: &mut [u8], at: usize, width: usize, number: u64)
-    requires { ⌜ at + width ≤ length (now buf) ⌝ }
-    ensures { λ _. ⌜ now (buf .exit) ≡ sets (now (buf .entry)) at (leBytes width number) ⌝ }
-{
-    let mut n = number;
-    let mut i: usize = 0;
-    while i < width {
-        buf[at + i] = (n % 256) as u8;
-        n = n / 256;
-        i = i + 1;
-    }
-}
-
-// All the fields, one behind the other, from a place on.
-fn put_all(buf: &mut [u8], start: usize, p: Parts)
-    requires { ⌜ start + length (joinedOf (p .widths) (p .numbers)) ≤ length (now buf) ⌝ }
-    ensures { λ _. ⌜ now (buf .exit) ≡ sets (now (buf .entry)) start (joinedOf (p .widths) (p .numbers)) ⌝ }
-{
-    let mut at = start;
-    let mut j: usize = 0;
-    while j < 10 {
-        let width = p.widths[j];
-        put(buf, at, width, p.numbers[j]);
-        at = at + width;
-        j = j + 1;
-    }
-}
-
 // Puts down the record at the free place.
 pub fn write(a: Arguments, buf: &mut [u8], at: usize) -> Written
     ensures answer { λ r. ⌜ r ≡ answered a (now (buf .entry)) at ⌝ }
@@ -218,6 +187,9 @@ pub fn write(a: Arguments, buf: &mut [u8], at: usize) -> Written
     if buf.len() - at < n {
         return Written::Refused(19);
     }
-    put_all(buf, at, parts_of(a));
+    let p = parts_of(a);
+    let widths = p.widths;
+    let numbers = p.numbers;
+    little_endian::put_fields(&widths, &numbers, &mut buf[at..at + n]);
     Written::Next(at + n)
 }

@@ -10,14 +10,15 @@ use native.Mathlib.Nat.{mul-le-mul}
 use native.Mathlib.Omega.{arith}
 use lib.ListN.{length, replicate}
 use lib.Seq.{sets}
-use Rattle.tape_writer.specs.Writing.{joined, leBytes}
+use Rattle.little_endian.specs.LowBytes.{littleEndian}
+use Rattle.little_endian.specs.Fields.{joined}
 use Rattle.little_endian.specs.Fields.{fieldsIn}
 use Rattle.wav.specs.Header.{isLarge, partsOf, headerBytes, widthsOf, numbersOf, wholeRate}
 use Rattle.floats.specs.Arithmetic.{whole-is}
 use Rattle.floats.specs.Floats.{index}
 
 laid : (b : Bool) (c r n : ℕ) → sets (replicate 94 0) 0 (fieldsIn 94 (widthsOf b) (numbersOf b c r n)) ≡ joined (partsOf b c r n)
-unfolding fieldsIn widthsOf numbersOf partsOf joined leBytes
+unfolding fieldsIn widthsOf numbersOf partsOf joined littleEndian
 laid true c r n = refl
 laid false c r n = refl
 

@@ -8,22 +8,13 @@ use borrow.Author.Tests.{lt-ltb, le-ltb}
 use lib.Dec.{ltb}
 use native.Mathlib.Omega.{arith}
 use lib.Ieee.{Float, nan, binary32, toBits}
-use lib.ListN.{length, getD, drop, set, length-append, drop-of-length-le}
+use lib.ListN.{length, getD, drop, length-append, drop-of-length-le}
 use lib.Seq.{sets, drop-cons, drop-drop, getD-drop}
+use Rattle.listing.specs.Pieces.{text, add}
 use Rattle.listing.specs.Putting.{Putting, begin, further, ended, same-long, left-is, place-is, put, putLength, put-front, put-none}
-use Rattle.player.specs.Bytes.{littleEndian, bytesOf, length-little, length-bytes, bytes-append}
+use Rattle.little_endian.specs.Samples.{sampleBytes, bytesOf, length-sample, length-bytes, bytes-append, put-there}
 use Rattle.peak.specs.Peaks.{magnitude, greatest}
 use Rattle.wav.specs.Frames.{frameAt, framesFrom, dataBytes}
-
--- ---- a sample
-pub four-bytes : (l : List ℕ) (at n m : ℕ) → n ≡ m
-    → set (set (set (set l at (n % 256)) (at + 1) (n / 256 % 256)) (at + 2) (n / 256 / 256 % 256)) (at + 3) (n / 256 / 256 / 256 % 256) ≡ sets l at (littleEndian 4 m)
-unfolding littleEndian
-four-bytes l at n m e =
-    let p : at + 1 ≡ suc at = omega arith in
-    let q : at + 2 ≡ suc (suc at) = omega arith in
-    let r : at + 3 ≡ suc (suc (suc at)) = omega arith in
-    rw (← e, p, q, r)
 
 -- room for n runs of s is room for one and for n - 1 behind it
 one-less : (n at s len : ℕ) → 0 < n → at + n * s ≤ len → at + s + (n - 1) * s ≤ len
@@ -36,13 +27,10 @@ unfolding frameAt
 length-frame zero w xs j = refl
 length-frame (suc c) w xs j = ap suc (length-frame c w (drop w xs) j)
 
-abbrev sample : Float → List ℕ
-sample x = littleEndian 4 (toBits binary32 x)
-
-frame-step : (c w : ℕ) (xs : List Float) (j : ℕ) → 0 < c → bytesOf (frameAt c w xs j) ≡ sample (getD xs j nan) ++ bytesOf (frameAt (c - 1) w (drop w xs) j)
+frame-step : (c w : ℕ) (xs : List Float) (j : ℕ) → 0 < c → bytesOf (frameAt c w xs j) ≡ sampleBytes (getD xs j nan) ++ bytesOf (frameAt (c - 1) w (drop w xs) j)
 unfolding frameAt bytesOf
 frame-step zero w xs j h = absurd (omega arith)
-frame-step (suc c) w xs j h = let e : c ≡ suc c - 1 = omega arith in ap (λ (k : ℕ). sample (getD xs j nan) ++ bytesOf (frameAt k w (drop w xs) j)) e
+frame-step (suc c) w xs j h = let e : c ≡ suc c - 1 = omega arith in ap (λ (k : ℕ). sampleBytes (getD xs j nan) ++ bytesOf (frameAt k w (drop w xs) j)) e
 
 module _ (xs : List Float) (channels stride place : ℕ) (out₀ : List ℕ) (at : ℕ) where
   -- the samples of `left` channels, the first of which begins at `from`, are still to be put from `to` on
@@ -59,17 +47,21 @@ module _ (xs : List Float) (channels stride place : ℕ) (out₀ : List ℕ) (at
   next-given {out} {from} {to} {left} c h = let p = one-less left from stride (length xs) h (c .given) in omega arith
 
   pub turn : {out : List ℕ} {from to left : ℕ} → Channels out from to left → 0 < left
-      → (out′ : List ℕ) → out′ ≡ sets out to (sample (getD xs (from + place) nan)) → Channels out′ (from + stride) (to + 4) (left - 1)
-  turn {out} {from} {to} {left} c h out′ e =
+      → (out′ : List ℕ) (to′ : ℕ) → text out′ to′ ≡ add (sampleBytes (getD xs (from + place) nan)) (text out to) → Channels out′ (from + stride) to′ (left - 1)
+  turn {out} {from} {to} {left} c h out′ to′ e =
+      let sample = sampleBytes (getD xs (from + place) nan) in
       let rest = bytesOf (frameAt (left - 1) stride (drop (from + stride) xs) place) in
-      let s : bytesOf (frameAt left stride (drop from xs) place) ≡ sample (getD xs (from + place) nan) ++ rest =
+      let s : bytesOf (frameAt left stride (drop from xs) place) ≡ sample ++ rest =
       frame-step left stride (drop from xs) place h
-      ∙ ap (λ (x : Float). sample x ++ bytesOf (frameAt (left - 1) stride (drop stride (drop from xs)) place)) (getD-drop from xs place nan)
-      ∙ ap (λ (l : List Float). sample (getD xs (from + place) nan) ++ bytesOf (frameAt (left - 1) stride l place)) (drop-drop stride from xs) in
-      let n = length-little 4 (toBits binary32 (getD xs (from + place) nan)) in
+      ∙ ap (λ (x : Float). sampleBytes x ++ bytesOf (frameAt (left - 1) stride (drop stride (drop from xs)) place)) (getD-drop from xs place nan)
+      ∙ ap (λ (l : List Float). sample ++ bytesOf (frameAt (left - 1) stride l place)) (drop-drop stride from xs) in
+      let n = length-sample (getD xs (from + place) nan) in
+      let l = same-long (c .put) in
       let r = c .room in
+      let p = put-there sample out out′ to to′ e (omega arith) in
+      let q = p .1 in
       record {
-        put = place-is (further (sample (getD xs (from + place) nan)) rest (left-is (c .put) s) out′ e) (ap (λ (j : ℕ). to + j) n);
+        put = place-is (further sample rest (left-is (c .put) s) out′ (p .0)) (sym q);
         inside = c .inside;
         given = one-less left from stride (length xs) h (c .given);
         room = omega arith;

@@ -6,7 +6,7 @@ use mathlib.Core.List.{List, [], _∷_, _++_}
 use lib.Dec.{ltb}
 use lib.Ieee.{Float, nan, fin}
 use lib.ListN.{length, drop, getD}
-use Rattle.player.specs.Bytes.{bytesOf}
+use Rattle.little_endian.specs.Samples.{bytesOf}
 
 -- the sample at place j of each of c channels; the channels begin w places apart
 unfoldable pub frameAt : (c w : ℕ) → List Float → (j : ℕ) → List Float

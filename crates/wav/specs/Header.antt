@@ -8,7 +8,8 @@ use lib.Dec.{leb, ltb}
 use lib.Ieee.{Float, binary64}
 use Rattle.floats.specs.Arithmetic.{whole, _≈ᶠ_}
 use Rattle.floats.specs.Floats.{index}
-use Rattle.tape_writer.specs.Writing.{Part, word, long, joined, leBytes}
+use Rattle.little_endian.specs.LowBytes.{littleEndian}
+use Rattle.little_endian.specs.Fields.{Part, word, long, joined}
 
 -- a field of two bytes
 abbrev pub short : ℕ → Part

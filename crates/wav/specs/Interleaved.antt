@@ -10,7 +10,7 @@ use lib.Ieee.{Float, nan, inf, fin}
 use lib.IntN.{pos}
 use lib.ListN.{length, getD, take, drop, length-append, length-drop, List·getD-append}
 use lib.Seq.{length-take-le, drop-at, getD-drop, getD-take}
-use Rattle.player.specs.Bytes.{bytesOf}
+use Rattle.little_endian.specs.Samples.{bytesOf}
 use Rattle.player.specs.Bytes.{channelsOf}
 use Rattle.wav.specs.Frames.{frameAt, framesFrom, dataBytes}
 

@@ -4,22 +4,10 @@ ghost use mathlib.Core.List.{map};
 ghost use Prim.Native.Nat.{_+_, _*_, _≤_, _<_, max};
 ghost use lib.ListN.{length};
 ghost use lib.Seq.{sets};
-ghost use lib.Ieee.{binary32, toBits};
-ghost use Rattle.player.specs.Bytes.{littleEndian, bytesOf};
+ghost use Rattle.little_endian.specs.Samples.{bytesOf};
 ghost use Rattle.listing.specs.Putting.{put, putLength};
 ghost use Rattle.peak.specs.Peaks.{magnitude, greatest};
 ghost use Rattle.wav.specs.Frames.{frameAt, framesFrom, dataBytes};
-
-fn put_sample(x: f32, out: &mut [u8], at: usize)
-    requires { ⌜ at + 4 ≤ length (now out) ⌝ }
-    ensures { λ _. ⌜ now (out .exit) ≡ sets (now (out .entry)) at (littleEndian 4 (toBits binary32 x)) ⌝ }
-{
-    let bits = float_bits::f32_to_bits(x);
-    out[at] = (bits % 256) as u8;
-    out[at + 1] = (bits / 256 % 256) as u8;
-    out[at + 2] = (bits / 256 / 256 % 256) as u8;
-    out[at + 3] = (bits / 256 / 256 / 256 % 256) as u8;
-}
 
 // The sample at `place` of every channel; the channels begin `stride` places apart.
 fn put_frame(
@@ -37,9 +25,8 @@ fn put_frame(
     let mut to = at;
     let mut left = channels;
     while left > 0 {
-        put_sample(samples[from + place], out, to);
+        to = little_endian::put_sample(samples[from + place], out, to);
         from = from + stride;
-        to = to + 4;
         left = left - 1;
     }
 }

@@ -2,7 +2,7 @@
 use borrow.Author.Needs.{needs}
 use native.Mathlib.Omega.{arith}
 use Rattle.listing.specs.Putting.{same-long}
-use Rattle.player.proofs.Puts.{Channels, start, next-given, next-fits, next-long, turn, finish}
+use Rattle.player.proofs.Puts.{Channels, start, next-given, turn, finish}
 use Rattle.player.proofs.bytes.put_channels.Statement.{statement}
 use Rattle.player.proofs.bytes.put_channels.Tie as tie
 
@@ -25,24 +25,11 @@ part-put-samples-end c =
     let g = next-given _ _ _ _ _ _ (c .before .loop .inv) (c .loop-test .taken) in
     omega arith
 
-put-samples-requires : tie.Need-put-samples-requires Inv-loop μ-loop
-put-samples-requires c κs =
-    let n = next-long _ _ _ _ _ _ (c .before .before .before .loop .inv) (c .before .before .loop-test .taken) in
-    let f = next-fits _ _ _ _ _ _ (c .before .before .before .loop .inv) (c .before .before .loop-test .taken) in
-    let s = same-long (c .before .before .before .loop .inv .put) in
-    omega arith
-
 add-from : tie.Need-add-from Inv-loop μ-loop
 add-from c = let g = next-given _ _ _ _ _ _ (c .before .before .before .before .before .before .loop .inv) (c .before .before .before .before .before .loop-test .taken) in search needs
 
-mul-to : tie.Need-mul-to Inv-loop μ-loop
-mul-to c = let f = next-fits _ _ _ _ _ _ (c .before .before .before .before .before .before .loop .inv) (c .before .before .before .before .before .loop-test .taken) in search needs
-
-add-to : tie.Need-add-to Inv-loop μ-loop
-add-to c = let f = next-fits _ _ _ _ _ _ (c .before .before .before .before .before .before .loop .inv) (c .before .before .before .before .before .loop-test .taken) in search needs
-
 loop-again : tie.Need-loop-again Inv-loop μ-loop
-loop-again c = turn _ _ _ _ _ _ (c .before .before .before .before .before .before .loop .inv) (c .before .before .before .before .before .loop-test .taken) _ (c .before .before .put-samples .ensures)
+loop-again c = turn _ _ _ _ _ _ (c .before .before .before .before .before .before .loop .inv) (c .before .before .before .before .before .loop-test .taken) _ _ (c .before .before .put-samples .ensures)
 
 same-length : tie.Need-same-length Inv-loop μ-loop
 same-length c = same-long (c .before .loop .inv .put)
@@ -54,4 +41,4 @@ pub put-channels-spec : {M : Type 1} → statement M
 put-channels-spec =
     tie.close
     (tie.spec Inv-loop μ-loop loop-holds add-put-samples (λ c. search needs) (λ c. search needs) (λ c. search needs) part-put-samples-end
-    put-samples-requires add-from mul-to add-to (λ c. search needs) (λ c. search needs) loop-again same-length returns)
+    (λ c κs. search needs) add-from (λ c. search needs) (λ c. search needs) loop-again same-length returns)

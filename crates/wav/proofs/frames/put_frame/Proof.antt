@@ -25,17 +25,11 @@ mul-put-sample c = let g = next-given _ _ _ _ _ _ (c .before .loop .inv) (c .loo
 shared-slice-read-put-sample : tie.Need-shared-slice-read-put-sample Inv-loop μ-loop
 shared-slice-read-put-sample c = let g = next-given _ _ _ _ _ _ (c .before .before .loop .inv) (c .before .loop-test .taken) in let i = c .before .before .loop .inv .inside in omega arith
 
-put-sample-requires : tie.Need-put-sample-requires Inv-loop μ-loop
-put-sample-requires c κs = let s = same-long (c .before .before .before .loop .inv .put) in omega (arith, c .before .before .before .loop .inv .room, c .before .before .loop-test .taken)
-
 add-from : tie.Need-add-from Inv-loop μ-loop
 add-from c = let g = next-given _ _ _ _ _ _ (c .before .before .before .before .before .before .loop .inv) (c .before .before .before .before .before .loop-test .taken) in search needs
 
-add-to : tie.Need-add-to Inv-loop μ-loop
-add-to c = let s = same-long (c .before .before .before .before .before .before .loop .inv .put) in omega (arith, c .before .before .before .before .before .before .loop .inv .room, c .before .before .before .before .before .loop-test .taken)
-
 loop-again : tie.Need-loop-again Inv-loop μ-loop
-loop-again c = turn _ _ _ _ _ _ (c .before .before .before .before .before .before .loop .inv) (c .before .before .before .before .before .loop-test .taken) _ (c .before .before .put-sample .ensures)
+loop-again c = turn _ _ _ _ _ _ (c .before .before .before .before .before .before .loop .inv) (c .before .before .before .before .before .loop-test .taken) _ _ (c .before .before .put-sample .ensures)
 
 same-length : tie.Need-same-length Inv-loop μ-loop
 same-length c = same-long (c .before .loop .inv .put)
@@ -46,5 +40,5 @@ returns c = finish _ _ _ _ _ _ (c .before .loop .inv) (c .loop-test .left)
 pub put-frame-spec : {M : Type 1} → statement M
 put-frame-spec =
     tie.close
-    (tie.spec Inv-loop μ-loop loop-holds add-put-sample mul-put-sample shared-slice-read-put-sample put-sample-requires add-from add-to
+    (tie.spec Inv-loop μ-loop loop-holds add-put-sample mul-put-sample shared-slice-read-put-sample (λ c κs. search needs) add-from
     (λ c. search needs) (λ c. search needs) loop-again same-length returns)
