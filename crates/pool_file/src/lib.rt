@@ -1,6 +1,5 @@
 // The pool that clips read, from a file: a WAV of one channel of 32-bit floats, or such samples and nothing else. For programs: of what a call of C's reads no contract can speak.
 ghost use mathlib.Core.Path.{_≡_};
-ghost use Prim.Native.Nat.{_≤_};
 ghost use lib.ListN.{length};
 use tape::fields;
 
@@ -97,12 +96,6 @@ fn refused(text: &[u8]) -> Loaded {
     }
 }
 
-fn least(a: usize, b: usize) -> usize
-    ensures { λ r. ⌜ r ≤ a ⌝ }
-{
-    if a < b { a } else { b }
-}
-
 // The bytes at hand, those that are still to come, the samples so far, and what ends it: nothing yet (0), the end (1), a read that fails (2), too many samples (3).
 struct Filling {
     have: usize,
@@ -130,7 +123,7 @@ fn put(buf: &[u8], n: usize, pool: &mut [f32], count: usize) -> usize {
 
 // Moves on by the bytes at hand, and reads more.
 fn step(fd: i32, buf: &mut [u8], pool: &mut [f32], s: Filling) -> Filling {
-    let n = least(s.have, s.left);
+    let n = fields::least(s.have, s.left);
     let count = s.count;
     let k = put(buf, n, pool, count);
     if n / 4 != k {

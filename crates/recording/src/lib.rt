@@ -6,12 +6,6 @@ ghost use lib.Seq.{sets};
 ghost use Rattle.recording.specs.Samples.{samplesFrom};
 use tape::fields;
 
-fn least(a: usize, b: usize) -> usize
-    ensures { λ r. ⌜ r ≡ min a b ⌝ }
-{
-    if a < b { a } else { b }
-}
-
 // Puts the samples of whole groups of four bytes into `out` from a place on, as many as have room, and answers how many.
 pub fn put_samples(bytes: &[u8], out: &mut [f32], at: usize) -> usize
     ensures count { λ r. ⌜ r ≡ min (length (now (bytes .entry)) / 4) (length (now (out .entry)) - at) ⌝ }
@@ -20,7 +14,7 @@ pub fn put_samples(bytes: &[u8], out: &mut [f32], at: usize) -> usize
     if out.len() < at {
         return 0;
     }
-    let n = least(bytes.len() / 4, out.len() - at);
+    let n = fields::least(bytes.len() / 4, out.len() - at);
     let mut i: usize = 0;
     while i < n {
         out[at + i] = fields::f32_at(bytes, 4 * i);

@@ -1,6 +1,6 @@
 // Little-endian fields of a record. A byte that is not there counts as 0.
 ghost use mathlib.Core.Path.{_≡_};
-ghost use Prim.Native.Nat.{min, _≤_};
+ghost use Prim.Native.Nat.{min};
 ghost use lib.ListN.{getD};
 ghost use lib.Ieee.{binary32, binary64, ofBits};
 ghost use Rattle.tape.specs.Fields.{field};
@@ -11,9 +11,8 @@ fn wide(x: u8) -> u64
     x as u64
 }
 
-fn least(a: usize, b: usize) -> usize
+pub fn least(a: usize, b: usize) -> usize
     ensures { λ r. ⌜ r ≡ min a b ⌝ }
-    ensures { λ r. ⌜ r ≤ b ⌝ }
 {
     if a < b { a } else { b }
 }

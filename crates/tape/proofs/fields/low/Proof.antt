@@ -16,7 +16,7 @@ abbrev μ-loop : tie.MeasureT-loop
 μ-loop bs width i₀ n₀ i n = i
 
 loop-holds : tie.Need-loop-holds Inv-loop μ-loop
-loop-holds c = (le-refl _, (c .least .ensures .1, none-yet (c .least .result) (c .before .before .args .bs .now)))
+loop-holds c = (le-refl _, (omega (arith, c .least .ensures), none-yet (c .least .result) (c .before .before .args .bs .now)))
 
 mul-n : tie.Need-mul-n Inv-loop μ-loop
 mul-n c = omega (arith, next-fits _ _ _ _ (λ i. c .before .before .before .shared-slice-known .given i .fits) (c .before .loop .inv .1 .0) (c .loop-test .taken) (c .before .loop .inv .0) (c .before .loop .inv .1 .1))
@@ -29,7 +29,7 @@ loop-again c = (let l = c .before .before .before .loop .inv .0 in omega arith, 
 
 returns : tie.Need-returns Inv-loop μ-loop
 unfolding field
-returns c = let z : c .before .loop .i ≡ 0 = omega (arith, c .loop-test .left) in c .before .loop .inv .1 .1 ∙ ap (λ (k : ℕ). fromLittleEndian (drop k (take (c .before .before .least .result) (c .before .before .before .before .args .bs .now)))) z ∙ ap (λ (k : ℕ). fromLittleEndian (take k (c .before .before .before .before .args .bs .now))) (c .before .before .least .ensures .0)
+returns c = let z : c .before .loop .i ≡ 0 = omega (arith, c .loop-test .left) in c .before .loop .inv .1 .1 ∙ ap (λ (k : ℕ). fromLittleEndian (drop k (take (c .before .before .least .result) (c .before .before .before .before .args .bs .now)))) z ∙ ap (λ (k : ℕ). fromLittleEndian (take k (c .before .before .before .before .args .bs .now))) (c .before .before .least .ensures)
 
 pub low-spec : {M : Type 1} → statement M
 low-spec =
