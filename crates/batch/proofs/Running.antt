@@ -29,9 +29,10 @@ use Rattle.claim.specs.EngineCalls.{engineCall}
 use Rattle.batch.specs.declared.Batch.{Batch}
 use Rattle.batch.specs.declared.Step.{Step}
 use Rattle.batch.specs.Records.{beyond, stopOf, kindAt, callOf}
-use Rattle.batch.specs.Run.{Pushed, refusalIn, ends, behind, pushRun, pushAll, written}
+use Rattle.apply.specs.RecordCalls.{refusalOf}
+use Rattle.batch.specs.Run.{Pushed, ends, behind, pushRun, pushAll, written}
 use Rattle.batch.specs.Contract.{batchOf, pushRecords, numbersAfter}
-use Rattle.batch.specs.Rounds.{refusalOf, eventOf, stepOf}
+use Rattle.batch.specs.Rounds.{recordRefusal, eventOf, stepOf}
 
 -- ---- one record of the definition
 
@@ -40,11 +41,11 @@ module _ {S : Type 0} (call : S → Call → S × Reply) (n : ℕ) (bs : List �
   unfolding pushRun
   run-stops h = rw h
 
-  run-refused : eqb (stopOf bs) 0 ≡ true → (t : S) (r : Reply) → call s (callOf bs) ≡ (t, r) → eqb (refusalIn (r .answer)) 0 ≡ false → pushRun call (suc n) bs s ≡ ends t (refusalIn (r .answer))
+  run-refused : eqb (stopOf bs) 0 ≡ true → (t : S) (r : Reply) → call s (callOf bs) ≡ (t, r) → eqb (refusalOf (r .answer)) 0 ≡ false → pushRun call (suc n) bs s ≡ ends t (refusalOf (r .answer))
   unfolding pushRun
   run-refused h t r q k = rw (h, q, k)
 
-  run-on : eqb (stopOf bs) 0 ≡ true → (t : S) (r : Reply) → call s (callOf bs) ≡ (t, r) → eqb (refusalIn (r .answer)) 0 ≡ true
+  run-on : eqb (stopOf bs) 0 ≡ true → (t : S) (r : Reply) → call s (callOf bs) ≡ (t, r) → eqb (refusalOf (r .answer)) 0 ≡ true
       → pushRun call (suc n) bs s ≡ behind (acceptedOf (r .answer)) (pushRun call n (drop (sizeOf (kindOf bs)) bs) t)
   unfolding pushRun
   run-on h t r q k = rw (h, q, k)
@@ -56,7 +57,7 @@ heldIn s = min (s .«ready_len» + (s .«active_len» + s .«past_len»)) 256
 
 module _ (s : Sequencer) (bs : List ℕ) where
   abbrev refusalAt : ℕ
-  refusalAt = refusalOf (kindAt bs) (pushOf bs) (heldIn s) (s .next)
+  refusalAt = recordRefusal (kindAt bs) (pushOf bs) (heldIn s) (s .next)
 
   engine-refuses : eqb refusalAt 0 ≡ false → engineCall s (callOf bs) ≡ (s, answers (refused refusalAt))
   unfolding callOf pushes pushesTo

@@ -4,10 +4,10 @@ use mathlib.Core.Bool.{Bool, not, _||_, cond}
 use mathlib.Core.List.{List}
 use lib.Dec.{ltb, eqb}
 use lib.ListN.{length}
-use Rattle.ledger.specs.Calls.{Call, PushKind, push}
-use Rattle.tape.specs.declared.reader.PushRecord.{PushRecord}
+use Rattle.ledger.specs.Calls.{Call, PushKind}
 use Rattle.tape.specs.Tape.{kindOf, plainKind, pushKind, unknownPush, sizeOf, pushOf}
 use Rattle.apply.specs.Applying.{pushKindOf}
+use Rattle.apply.specs.RecordCalls.{pushCall}
 
 -- "A count above 32, or a slice of another length, is refused as 16 before any record is read."
 unfoldable pub beyond : (count length : ℕ) → Bool
@@ -25,8 +25,5 @@ stopOf bs =
 abbrev pub kindAt : List ℕ → PushKind
 kindAt bs = pushKindOf (plainKind (kindOf bs))
 
-abbrev pub callAt : PushKind → PushRecord → Call
-callAt kind p = push kind (p .«start_time») (p .«end_time») (p .«fade_in») (p .«fade_out») (p .«fade_ease») (p .source) (p .gain)
-
 unfoldable pub callOf : List ℕ → Call
-callOf bs = callAt (kindAt bs) (pushOf bs)
+callOf bs = pushCall (kindAt bs) (pushOf bs)

@@ -16,8 +16,8 @@ use Rattle.tape.specs.Tape.{kindOf, sizeOf, pushOf}
 use Rattle.batch.specs.declared.Step.{Step}
 use Rattle.batch.specs.Records.{stopOf, kindAt}
 
-abbrev pub refusalOf : PushKind → PushRecord → (held next : ℕ) → ℕ
-refusalOf kind p held next =
+abbrev pub recordRefusal : PushKind → PushRecord → (held next : ℕ) → ℕ
+recordRefusal kind p held next =
     let start = p .«start_time» in
     pushRefusal start (p .«end_time») (statedEnd kind start (p .«end_time») -ᵈ start) (p .«fade_in») (p .«fade_out») (p .source) (p .gain) held next
 
@@ -30,7 +30,7 @@ eventOf kind p clock next =
 -- what ends the run at this record, or 0; its event; its length
 unfoldable pub stepOf : List ℕ → (held : ℕ) → (clock : Float) → (next : ℕ) → Step
 stepOf bs held clock next = record {
-  ended = cond (eqb (stopOf bs) 0) (refusalOf (kindAt bs) (pushOf bs) held next) (stopOf bs);
+  ended = cond (eqb (stopOf bs) 0) (recordRefusal (kindAt bs) (pushOf bs) held next) (stopOf bs);
   event = eventOf (kindAt bs) (pushOf bs) clock next;
   size = sizeOf (kindOf bs);
 }

@@ -4,20 +4,11 @@ use mathlib.Core.Bool.{not, cond}
 use mathlib.Core.List.{List, [], _∷_, _++_}
 use lib.Dec.{eqb}
 use lib.ListN.{length, drop}
-use Rattle.ledger.specs.Calls.{Call, Answer, number, applied, past, stored, done, rendered, refused, Reply}
+use Rattle.ledger.specs.Calls.{Call, Reply}
 use Rattle.ledger.specs.Numbers.{acceptedOf}
+use Rattle.apply.specs.RecordCalls.{refusalOf}
 use Rattle.tape.specs.Tape.{kindOf, sizeOf}
 use Rattle.batch.specs.Records.{beyond, stopOf, callOf}
-
--- what refused a call, 0 if nothing did
-abbrev pub refusalIn : Answer → ℕ
-refusalIn (refused k) = k
-refusalIn (number k) = 0
-refusalIn applied = 0
-refusalIn past = 0
-refusalIn stored = 0
-refusalIn done = 0
-refusalIn (rendered c) = 0
 
 -- what is left behind, the numbers issued, and "what ended it, 0 if nothing did"
 pub record Pushed (S : Type 0) : Type 0 where
@@ -38,7 +29,7 @@ unfolding stopOf callOf
 pushRun call zero bs s = ends s 0
 pushRun call (suc n) bs s =
     let a = call s (callOf bs) in
-    let no = refusalIn (a .1 .answer) in
+    let no = refusalOf (a .1 .answer) in
     let rest = pushRun call n (drop (sizeOf (kindOf bs)) bs) (a .0) in
     cond (eqb (stopOf bs) 0)
     (cond (eqb no 0) (behind (acceptedOf (a .1 .answer)) rest) (ends (a .0) no))

@@ -6,7 +6,7 @@ ghost use Rattle.ledger.specs.Refusals.{statedEnd};
 ghost use Rattle.ledger.specs.Steps.{pushedTime};
 ghost use Rattle.apply.specs.Applying.{pushKindOf};
 ghost use Rattle.batch.specs.Records.{stopOf, beyond};
-ghost use Rattle.batch.specs.Rounds.{refusalOf, eventOf, stepOf};
+ghost use Rattle.batch.specs.Rounds.{recordRefusal, eventOf, stepOf};
 ghost use Rattle.batch.specs.Contract.{pushRecords, numbersAfter};
 use event::Event;
 use event::EventId;
@@ -82,7 +82,7 @@ fn pushed_time(kind: u8, clock: f64, x: f64) -> f64
 
 // The refusal of a push of kind 1, 2 or 3, or 0.
 fn refusal_of(kind: u8, p: PushRecord, held: usize, next: u64) -> u64
-    ensures { λ r. ⌜ r ≡ refusalOf (pushKindOf kind) p held next ⌝ }
+    ensures { λ r. ⌜ r ≡ recordRefusal (pushKindOf kind) p held next ⌝ }
 {
     let start = p.start_time;
     let lasts = stated_end(kind, start, p.end_time) - start;

@@ -16,7 +16,8 @@ use Rattle.tape.specs.Tape.{kindOf, gainKind, plainKind, pushKind, unknownPush,
 use Rattle.floats.specs.Arithmetic.{oneᶠ}
 use lib.Ieee.{Float, binary32, ofBits}
 use Rattle.batch.specs.Records.{beyond, stopOf, callOf}
-use Rattle.batch.specs.Run.{Pushed, refusalIn, ends, behind, pushRun, pushAll}
+use Rattle.apply.specs.RecordCalls.{refusalOf}
+use Rattle.batch.specs.Run.{Pushed, ends, behind, pushRun, pushAll}
 
 -- how far the record that begins the bytes is read: a push to its end, of anything else the kind byte
 abbrev pub reach : List ℕ → ℕ
@@ -29,7 +30,7 @@ bytesRead call zero bs s = 0
 bytesRead call (suc n) bs s =
     let a = call s (callOf bs) in
     let rest = bytesRead call n (drop (sizeOf (kindOf bs)) bs) (a .0) in
-    reach bs + cond (eqb (stopOf bs) 0) (cond (eqb (refusalIn (a .1 .answer)) 0) rest 0) 0
+    reach bs + cond (eqb (stopOf bs) 0) (cond (eqb (refusalOf (a .1 .answer)) 0) rest 0) 0
 
 -- ---- the length of a push
 
@@ -202,7 +203,7 @@ module _ {S : Type 0} (call : S → Call → S × Reply) where
       a = call s (callOf bs)
 
       no : ℕ
-      no = refusalIn (a .1 .answer)
+      no = refusalOf (a .1 .answer)
 
       size : ℕ
       size = sizeOf (kindOf bs)

@@ -9,7 +9,8 @@ use Rattle.ledger.specs.Calls.{Call, Reply}
 use Rattle.ledger.specs.Claim.{Engine, calls, SameReply, Lends, AllLend}
 use Rattle.tape.specs.Tape.{kindOf, sizeOf}
 use Rattle.batch.specs.Records.{beyond, stopOf, callOf}
-use Rattle.batch.specs.Run.{Pushed, refusalIn, pushAll, written}
+use Rattle.apply.specs.RecordCalls.{refusalOf}
+use Rattle.batch.specs.Run.{Pushed, pushAll, written}
 use Rattle.batch_claim.specs.Singles.{Reading, reading, upToRefused, singles, as-singles}
 
 -- a call of the plain ledger, or a run of push records with their count and the slice lent for the numbers
@@ -84,7 +85,7 @@ lend-reading b (suc n) bs = go (eqb (stopOf bs) 0) (lend-reading b n (drop (size
 lend-made : {S : Type 0} (call : S → Call → S × Reply) (b : Bool) (cs : List Call) (s : S) → AllLend b cs → AllLend b (upToRefused call cs s)
 unfolding upToRefused
 lend-made call b [] s h = tt
-lend-made call b (c ∷ cs) s h = (h .0, go (eqb (refusalIn (call s c .1 .answer)) 0) (lend-made call b cs (call s c .0) (h .1)))
+lend-made call b (c ∷ cs) s h = (h .0, go (eqb (refusalOf (call s c .1 .answer)) 0) (lend-made call b cs (call s c .0) (h .1)))
   where
     go : (t : Bool) → AllLend b (upToRefused call cs (call s c .0)) → AllLend b (cond t (upToRefused call cs (call s c .0)) [])
     go true ih = ih

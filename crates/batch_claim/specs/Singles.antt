@@ -11,7 +11,8 @@ use Rattle.ledger.specs.Numbers.{acceptedOf, accepted}
 use Rattle.ledger.specs.Claim.{Engine, calls}
 use Rattle.tape.specs.Tape.{kindOf, sizeOf}
 use Rattle.batch.specs.Records.{beyond, stopOf, callOf}
-use Rattle.batch.specs.Run.{Pushed, refusalIn, ends, behind, pushRun, pushAll, written}
+use Rattle.apply.specs.RecordCalls.{refusalOf}
+use Rattle.batch.specs.Run.{Pushed, ends, behind, pushRun, pushAll, written}
 
 -- ---- the calls that a run is
 
@@ -33,12 +34,12 @@ upToRefused call [] s = []
 upToRefused call (c ∷ cs) s =
     let a = call s c in
     let rest = upToRefused call cs (a .0) in
-    c ∷ cond (eqb (refusalIn (a .1 .answer)) 0) rest []
+    c ∷ cond (eqb (refusalOf (a .1 .answer)) 0) rest []
 
 -- the first refusal of a list of replies, or k where none is one
 unfoldable pub firstRefusal : List Reply → (k : ℕ) → ℕ
 firstRefusal [] k = k
-firstRefusal (r ∷ l) k = cond (eqb (refusalIn (r .answer)) 0) (firstRefusal l k) (refusalIn (r .answer))
+firstRefusal (r ∷ l) k = cond (eqb (refusalOf (r .answer)) 0) (firstRefusal l k) (refusalOf (r .answer))
 
 -- the single pushes of a whole call, and what stops it if none of them is refused; refused as 16 it has no push
 unfoldable pub singles : {S : Type 0} → (S → Call → S × Reply) → (records : List ℕ) → (count : ℕ) → (slice : List ℕ) → S → List Call
@@ -57,7 +58,7 @@ pub record AsSingles (E : Engine) (cs : List Call) (stop : ℕ) (s : E .State) (
   pub ended : p .ended ≡ firstRefusal (calls E cs s .1) stop
 
 -- a refused call issues no number
-refused-none : (a : Answer) → eqb (refusalIn a) 0 ≡ false → acceptedOf a ≡ []
+refused-none : (a : Answer) → eqb (refusalOf a) 0 ≡ false → acceptedOf a ≡ []
 refused-none (number k) h = absurd (true≢false h)
 refused-none applied h = refl
 refused-none past h = refl
@@ -78,7 +79,7 @@ module _ (E : Engine) (n : ℕ) (bs : List ℕ) (s : E .State) where
       a = E .call s (callOf bs)
 
       no : ℕ
-      no = refusalIn (a .1 .answer)
+      no = refusalOf (a .1 .answer)
 
       rest : List ℕ
       rest = drop (sizeOf (kindOf bs)) bs

@@ -22,7 +22,8 @@ use Rattle.claim.specs.Steps.{keep}
 use Rattle.claim.specs.Theorem.{claim}
 use Rattle.tape.specs.Tape.{kindOf, sizeOf}
 use Rattle.batch.specs.Records.{beyond, stopOf, callOf}
-use Rattle.batch.specs.Run.{Pushed, refusalIn, ends, behind, pushRun, pushAll, written}
+use Rattle.apply.specs.RecordCalls.{refusalOf}
+use Rattle.batch.specs.Run.{Pushed, ends, behind, pushRun, pushAll, written}
 use Rattle.batch_claim.specs.Singles.{reading, upToRefused, singles}
 use Rattle.batch_claim.specs.Lists.{Item, single, batch, ItemReply, answerOf, items, flat, items-flat, ItemsLend, lend-reading, lend-flat, SameItem, SameItems}
 
@@ -83,18 +84,18 @@ module _ (n : ℕ) (bs : List ℕ) (s : Sequencer) (l : Ledger) (w : Lawful l) (
       after = next (k .0) (step-lawful l c w)
 
       accept : (x : Answer) → a ≡ x → b ≡ x → (t : Bool)
-          → Alike (cond t (behind (acceptedOf a) (pushRun (engine .call) n rest (engine .call s c .0))) (ends (engine .call s c .0) (refusalIn a)))
-          (cond t (behind (acceptedOf b) (pushRun ledgerCall n rest (step l c .ledger))) (ends (step l c .ledger) (refusalIn b)))
+          → Alike (cond t (behind (acceptedOf a) (pushRun (engine .call) n rest (engine .call s c .0))) (ends (engine .call s c .0) (refusalOf a)))
+          (cond t (behind (acceptedOf b) (pushRun ledgerCall n rest (step l c .ledger))) (ends (step l c .ledger) (refusalOf b)))
       accept x p q true = record { related = after .related; lawful = after .lawful; numbers = ap₂ (λ (y : Answer) (ns : List ℕ). acceptedOf y ++ ns) (p ∙ sym q) (after .numbers); ended = after .ended }
-      accept x p q false = record { related = k .0; lawful = step-lawful l c w; numbers = refl; ended = ap refusalIn (p ∙ sym q) }
+      accept x p q false = record { related = k .0; lawful = step-lawful l c w; numbers = refl; ended = ap refusalOf (p ∙ sym q) }
 
       go : (t : Bool)
-          → Alike (cond t (cond (eqb (refusalIn a) 0) (behind (acceptedOf a) (pushRun (engine .call) n rest (engine .call s c .0))) (ends (engine .call s c .0) (refusalIn a))) (ends s (stopOf bs)))
-          (cond t (cond (eqb (refusalIn b) 0) (behind (acceptedOf b) (pushRun ledgerCall n rest (step l c .ledger))) (ends (step l c .ledger) (refusalIn b))) (ends l (stopOf bs)))
+          → Alike (cond t (cond (eqb (refusalOf a) 0) (behind (acceptedOf a) (pushRun (engine .call) n rest (engine .call s c .0))) (ends (engine .call s c .0) (refusalOf a))) (ends s (stopOf bs)))
+          (cond t (cond (eqb (refusalOf b) 0) (behind (acceptedOf b) (pushRun ledgerCall n rest (step l c .ledger))) (ends (step l c .ledger) (refusalOf b))) (ends l (stopOf bs)))
       go true =
-          subst (λ (t : Bool). Alike (cond (eqb (refusalIn a) 0) (behind (acceptedOf a) (pushRun (engine .call) n rest (engine .call s c .0))) (ends (engine .call s c .0) (refusalIn a)))
-          (cond t (behind (acceptedOf b) (pushRun ledgerCall n rest (step l c .ledger))) (ends (step l c .ledger) (refusalIn b))))
-          (ap (λ (y : Answer). eqb (refusalIn y) 0) (k .1 .answer)) (accept b (k .1 .answer) refl (eqb (refusalIn a) 0))
+          subst (λ (t : Bool). Alike (cond (eqb (refusalOf a) 0) (behind (acceptedOf a) (pushRun (engine .call) n rest (engine .call s c .0))) (ends (engine .call s c .0) (refusalOf a)))
+          (cond t (behind (acceptedOf b) (pushRun ledgerCall n rest (step l c .ledger))) (ends (step l c .ledger) (refusalOf b))))
+          (ap (λ (y : Answer). eqb (refusalOf y) 0) (k .1 .answer)) (accept b (k .1 .answer) refl (eqb (refusalOf a) 0))
       go false = record { related = r; lawful = w; numbers = refl; ended = refl }
 
 run-alike : (n : ℕ) (bs : List ℕ) (s : Sequencer) (l : Ledger) → Lawful l → Related s l → Alike (pushRun (engine .call) n bs s) (pushRun ledgerCall n bs l)
@@ -120,7 +121,7 @@ made-alike [] h s l w r = refl
 made-alike (c ∷ cs) h s l w r =
     let k = keep s l c (h .0) w r in
     let ih = made-alike cs (h .1) (engine .call s c .0) (step l c .ledger) (step-lawful l c w) (k .0) in
-    ap₂ (λ (a : Answer) (ds : List Call). c ∷ cond (eqb (refusalIn a) 0) ds []) (k .1 .answer) ih
+    ap₂ (λ (a : Answer) (ds : List Call). c ∷ cond (eqb (refusalOf a) 0) ds []) (k .1 .answer) ih
 
 singles-alike : (bs : List ℕ) (n : ℕ) (slice : List ℕ) (s : Sequencer) (l : Ledger) → Lawful l → Related s l → singles (engine .call) bs n slice s ≡ singles ledgerCall bs n slice l
 unfolding singles

@@ -42,7 +42,8 @@ use Rattle.tape.specs.Pool.{trailPool}
 use Rattle.apply.specs.declared.Applied.{Applied}
 use Rattle.apply.specs.Applying as Engine
 use Rattle.apply.specs.Applying.{appliedTo, appliedOut, silentOf, soundingOf, lentTick, lentBlock, ticking, tickingOut, processing, processingOut}
-use Rattle.render.specs.Playing.{Played, refusalOf, silent, heard, pushCall, editCall, play}
+use Rattle.apply.specs.RecordCalls.{refusalOf, pushCall, editCall}
+use Rattle.render.specs.Playing.{Played, silent, heard, play}
 use Rattle.plans.specs.Sounding.{length-overlay}
 use Rattle.player.specs.Bytes.{channelsOf}
 use Rattle.render.proofs.Heard.{step-channels, create-few, channels-front, accepted-size, plays-tick, plays-block}

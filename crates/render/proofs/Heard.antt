@@ -27,7 +27,8 @@ use Rattle.tape.specs.declared.reader.Call.the-variants.{Tick, Process}
 use Rattle.tape.specs.Pool.{trailPool}
 use Rattle.plans.specs.Sounding.{length-row}
 use Rattle.player.specs.Bytes.{channelsOf}
-use Rattle.render.specs.Playing.{refusalOf, heard, play}
+use Rattle.apply.specs.RecordCalls.{refusalOf}
+use Rattle.render.specs.Playing.{heard, play}
 
 -- ---- channels
 

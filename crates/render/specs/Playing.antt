@@ -8,15 +8,13 @@ use lib.Ieee.{Float}
 use lib.ListN.{replicate}
 use Rattle.event.specs.declared.MixOrder.the-variants.{Forward}
 use Rattle.floats.specs.Arithmetic.{zeroᶠ}
-use Rattle.ledger.specs.Calls.{PushKind, absolute, relative, byDuration, EditKind, absoluteEnd, relativeEnd, push, edit, tick, block, rate, reset, Answer, number, applied, past, stored, done, rendered, refused}
-use Rattle.ledger.specs.Calls as Calls
+use Rattle.ledger.specs.Calls.{absolute, relative, byDuration, absoluteEnd, relativeEnd, tick, block, rate, reset}
 use Rattle.ledger.specs.Ledger.{Ledger, create}
 use Rattle.ledger.specs.Steps.{Outcome, step}
 use Rattle.tape.specs.declared.reader.Call.{Call}
 use Rattle.tape.specs.declared.reader.Call.the-variants.{Create, Push, PushRelative, PushDuration, Edit, EditRelative, Tick, Process, Reset, SetSampleRate}
-use Rattle.tape.specs.declared.reader.PushRecord.{PushRecord}
-use Rattle.tape.specs.declared.reader.EditRecord.{EditRecord}
 use Rattle.tape.specs.Pool.{trailPool}
+use Rattle.apply.specs.RecordCalls.{refusalOf, pushCall, editCall}
 use Rattle.player.specs.Bytes.{channelsOf}
 
 -- the ledger after a record, the refusal or 0, and the samples of an accepted tick or block, channel after channel
@@ -24,15 +22,6 @@ pub record Played : Type 0 where
   pub ledger : Ledger
   pub refusal : ℕ
   pub samples : List Float
-
-abbrev pub refusalOf : Answer → ℕ
-refusalOf (refused n) = n
-refusalOf (number k) = 0
-refusalOf applied = 0
-refusalOf past = 0
-refusalOf stored = 0
-refusalOf done = 0
-refusalOf (rendered c) = 0
 
 -- a record without samples
 abbrev pub silent : Outcome → Played
@@ -43,12 +32,6 @@ unfolding channelsOf
 heard c n w o =
     let no = refusalOf (o .reply .answer) in
     record { ledger = o .ledger; refusal = no; samples = cond (eqb no 0) (channelsOf c n w (o .reply .out)) [] }
-
-abbrev pub pushCall : PushKind → PushRecord → Calls.Call
-pushCall kind p = push kind (p .«start_time») (p .«end_time») (p .«fade_in») (p .«fade_out») (p .«fade_ease») (p .source) (p .gain)
-
-abbrev pub editCall : EditKind → EditRecord → Calls.Call
-editCall kind p = edit kind (p .id .0) (p .«end_time») (p .«fade_out»)
 
 -- A tick or block is lent the pool of `trail` and an output of the length that it wants.
 unfoldable pub play : Ledger → Call → Played
