@@ -27,15 +27,6 @@ fn list_numbers(numbers: &[u64]) {
     io::write_all(1, b"\n");
 }
 
-// Writes the line of the state behind a run.
-fn list_state(kind: u8, s: Sequencer) {
-    let mut text = [0u8; 1024];
-    let n = state_listing::engine_line(kind, Answer::Done, s, &mut text);
-    if n <= 1024 {
-        io::write_all(1, &text[..n]);
-    }
-}
-
 fn push_records(
     s: Sequencer,
     records: &[u8],
@@ -51,7 +42,7 @@ fn push_records(
     io::print_decimal(1, b.ended);
     list_numbers(numbers);
     let s = b.sequencer;
-    list_state(32, s);
+    state_output::list_engine(32, Answer::Done, s);
     s
 }
 

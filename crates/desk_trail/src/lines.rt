@@ -1,8 +1,6 @@
-// A record's lines, written to standard output: what they are is told by the contracts of crates `listing` and `state_listing`.
+// A record's lines, written to standard output: what they are is told by the contracts of crate `listing`.
 ghost use mathlib.Core.Path.{_≡_};
 ghost use mathlib.Core.Bool.{false};
-use realseq::Answer;
-use realseq::SequencerBackend;
 use sequencer::Counts;
 use tape::reader::Read;
 
@@ -86,14 +84,5 @@ pub(crate) fn stop(r: Read, counts: Counts) {
             call: _,
             next: _,
         } => {}
-    }
-}
-
-// The line of a record's answer and of the state behind it.
-pub(crate) fn list_state(kind: u8, answer: Answer, d: SequencerBackend) {
-    let mut text = [0u8; 1024];
-    let n = state_listing::desk_line(kind, answer, d, &mut text);
-    if n <= 1024 {
-        io::write_all(1, &text[..n]);
     }
 }

@@ -270,7 +270,7 @@ fn list(kind: u8, p: Played, samples: &[f32]) -> bool {
         return false;
     }
     let answer = p.answer;
-    lines::list_state(kind, answer, d);
+    state_output::list_desk(kind, answer, d);
     true
 }
 

@@ -5,6 +5,7 @@ use runs::least;
 use sequencer::Answer;
 use sequencer::Outcome;
 use sequencer::Sequencer;
+use state_output::list_engine;
 use tape::reader::Call;
 use tape::reader::Cursor;
 use tape::reader::EditRecord;
@@ -89,19 +90,10 @@ fn play(s: Sequencer, call: Call, pool: &[f32], samples: &mut [f32]) -> Outcome 
     }
 }
 
-// Writes the line of a record's answer and of the state behind it.
-fn list(kind: u8, answer: Answer, s: Sequencer) {
-    let mut text = [0u8; 1024];
-    let n = state_listing::engine_line(kind, answer, s, &mut text);
-    if n <= 1024 {
-        io::write_all(1, &text[..n]);
-    }
-}
-
 // The line of a record that 14 or 15 refuses.
 fn stop(r: Read, s: Sequencer) {
     match r {
-        Read::Refused { kind, number } => list(kind, Answer::Refused(number as u64), s),
+        Read::Refused { kind, number } => list_engine(kind, Answer::Refused(number as u64), s),
         Read::End => {}
         Read::Record {
             kind: _,
@@ -140,7 +132,7 @@ fn run(bytes: &[u8], pool: &[f32]) {
         let o = play(s, call, pool, &mut samples);
         s = o.sequencer;
         let answer = o.answer;
-        list(kind, answer, s);
+        list_engine(kind, answer, s);
         if is_refused_creation(answer) {
             return;
         }

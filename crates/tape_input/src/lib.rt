@@ -54,3 +54,24 @@ pub fn enough(at: usize, have: usize) -> bool
 {
     if have < at { false } else { 47 <= have - at }
 }
+
+// A tape's length from its two bytes.
+fn length_of(low: u8, high: u8) -> usize {
+    low as usize + 256 * (high as usize)
+}
+
+// Reads from standard input, where a tape stands behind its length in two bytes, the next tape; answers how many bytes it has, or 65,536 at the end of the input.
+pub fn next_tape(buf: &mut [u8]) -> usize {
+    let mut head = [0u8; 2];
+    if io::read_full(0, &mut head) < 2 {
+        return 65536;
+    }
+    let n = length_of(head[0], head[1]);
+    if buf.len() < n {
+        return 65536;
+    }
+    if io::read_full(0, &mut buf[..n]) < n {
+        return 65536;
+    }
+    n
+}

@@ -112,27 +112,6 @@ fn play(tape: &[u8], pool: &[f32]) -> Played {
     p
 }
 
-// A tape's length from its two bytes.
-fn length_of(low: u8, high: u8) -> usize {
-    low as usize + 256 * (high as usize)
-}
-
-// Reads a tape's length and the tape; answers how many bytes it has, or 65,536 at the end of the input.
-fn next_tape(buf: &mut [u8]) -> usize {
-    let mut head = [0u8; 2];
-    if io::read_full(0, &mut head) < 2 {
-        return 65536;
-    }
-    let n = length_of(head[0], head[1]);
-    if buf.len() < n {
-        return 65536;
-    }
-    if io::read_full(0, &mut buf[..n]) < n {
-        return 65536;
-    }
-    n
-}
-
 fn print_line(p: Played, count: usize, digest: u64) {
     io::print_decimal(1, p.records);
     io::write_all(1, b" ");
@@ -151,7 +130,7 @@ fn main() {
     let mut turns: u64 = 1000;
     while turns > 0 {
         turns = turns - 1;
-        let n = next_tape(&mut buf);
+        let n = tape_input::next_tape(&mut buf);
         if 65536 <= n {
             return;
         }

@@ -1,5 +1,5 @@
 // Records written and rewritten. Standard input has a count in four bytes, so many requests of 128 bytes, and then tapes, each behind its length in two bytes; all little-endian.
-// A request is a record's arguments, the free place and the buffer's length (see `arguments` and `write_one`): its line has the next free place or the refusal, and the whole buffer, which held EE.
+// A request is a record's arguments, the free place and the buffer's length (crate argument_records; see `write_one`): its line has the next free place or the refusal, and the whole buffer, which held EE.
 // Each record of a tape is read and written again at its own place: the tape's line says where that ended, and has the digest of what was written.
 // The file `stdout` was made by the Rust: see oracle/src/bin/writervectors.rs.
 ghost use Prim.Native.Nat.{_≤_};
@@ -9,28 +9,6 @@ use tape::reader::Read;
 use tape_writer::Arguments;
 use tape_writer::Written;
 use tape_writer::calls;
-
-fn arguments(b: &[u8]) -> Arguments {
-    Arguments {
-        kind: fields::word64(b, 0),
-        channels: fields::word64(b, 8),
-        mode: fields::word64(b, 16),
-        number: fields::word64(b, 24),
-        start_time: fields::f64_at(b, 32),
-        end_time: fields::f64_at(b, 40),
-        fade_in: fields::f64_at(b, 48),
-        fade_out: fields::f64_at(b, 56),
-        curve: fields::word64(b, 64),
-        source: fields::word64(b, 72),
-        value: fields::f32_at(b, 80),
-        step: fields::f32_at(b, 84),
-        offset: fields::word32(b, 88),
-        length: fields::word32(b, 92),
-        gain: fields::f32_at(b, 96),
-        size: fields::word64(b, 104),
-        sample_rate: fields::f64_at(b, 112),
-    }
-}
 
 fn print_bytes(bytes: &[u8]) {
     let mut i: usize = 0;
@@ -72,7 +50,7 @@ fn write_one() -> bool {
     if io::read_full(0, &mut request) < 128 {
         return false;
     }
-    let a = arguments(&request);
+    let a = argument_records::get(&request);
     let at = fields::word64(&request, 120) as usize;
     let n = within(fields::word32(&request, 100));
     let mut buf = [0xEEu8; 64];
@@ -113,27 +91,6 @@ fn rewrite(tape: &[u8], out: &mut [u8]) -> usize {
     c.at
 }
 
-// A tape's length from its two bytes.
-fn length_of(low: u8, high: u8) -> usize {
-    low as usize + 256 * (high as usize)
-}
-
-// Reads a tape's length and the tape; answers how many bytes it has, or 65,536 at the end of the input.
-fn next_tape(buf: &mut [u8]) -> usize {
-    let mut head = [0u8; 2];
-    if io::read_full(0, &mut head) < 2 {
-        return 65536;
-    }
-    let n = length_of(head[0], head[1]);
-    if buf.len() < n {
-        return 65536;
-    }
-    if io::read_full(0, &mut buf[..n]) < n {
-        return 65536;
-    }
-    n
-}
-
 fn print_line(place: usize, digest: u64) -> bool {
     io::print_decimal(1, place as u64);
     io::write_all(1, b" ");
@@ -166,7 +123,7 @@ fn main() {
     let mut turns: u64 = 1000;
     while turns > 0 {
         turns = turns - 1;
-        let n = next_tape(&mut buf);
+        let n = tape_input::next_tape(&mut buf);
         if 65536 <= n {
             return;
         }

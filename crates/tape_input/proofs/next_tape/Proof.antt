@@ -1,10 +1,10 @@
--- `tape_writer_vectors::next_tape` is safe and ends: the tape is within the buffer. Assumes nothing.
+-- `tape_input::next_tape` is safe and ends: the tape is within the buffer. Assumes nothing.
 use mathlib.Core.Path.{sym}
 use lib.Seq.{length-take-le}
 use native.Mathlib.Omega.{arith}
 use borrow.Author.Needs.{needs}
-use Rattle.tape_writer_vectors.proofs.next_tape.Statement.{statement}
-use Rattle.tape_writer_vectors.proofs.next_tape.Tie as tie
+use Rattle.tape_input.proofs.next_tape.Statement.{statement}
+use Rattle.tape_input.proofs.next_tape.Tie as tie
 
 slice-aggregate-read-full-2 : tie.Need-slice-aggregate-read-full-2
 slice-aggregate-read-full-2 c = sym (length-take-le _ _ (omega arith))
