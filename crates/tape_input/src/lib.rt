@@ -61,7 +61,9 @@ fn length_of(low: u8, high: u8) -> usize {
 }
 
 // Reads from standard input, where a tape stands behind its length in two bytes, the next tape; answers how many bytes it has, or 65,536 at the end of the input.
-pub fn next_tape(buf: &mut [u8]) -> usize {
+pub fn next_tape(buf: &mut [u8]) -> usize
+    ensures { λ r. ⌜ ((r ≡ 65536 → ⊥) → r ≤ length (now (buf .entry))) ⌝ }
+{
     let mut head = [0u8; 2];
     if io::read_full(0, &mut head) < 2 {
         return 65536;
