@@ -1,26 +1,9 @@
 /* Renders the tape in a file and prints each sample's bits on a line of its own.
  * Usage: render TAPE [BYTES], where BYTES is the room lent to the samples (65,536 if not given). */
 #include "../include/render.h"
+#include "read_file.h"
 #include <stdio.h>
 #include <stdlib.h>
-
-static uint8_t *read_file(const char *path, size_t *length) {
-    FILE *file = fopen(path, "rb");
-    if (!file || fseek(file, 0, SEEK_END)) {
-        return NULL;
-    }
-    long size = ftell(file);
-    rewind(file);
-    /* As long as the tape and no longer, so that a memory checker sees a read beyond it. */
-    uint8_t *bytes = size < 0 ? NULL : malloc(size ? (size_t)size : 1);
-    if (bytes && fread(bytes, 1, (size_t)size, file) != (size_t)size) {
-        free(bytes);
-        bytes = NULL;
-    }
-    fclose(file);
-    *length = (size_t)size;
-    return bytes;
-}
 
 int main(int argc, char **argv) {
     if (argc < 2) {

@@ -38,12 +38,11 @@ use Rattle.tape.specs.declared.reader.Call.{Call}
 use Rattle.tape.specs.declared.reader.Call.the-variants.{Create, Push, PushRelative, PushDuration, Edit, EditRelative, Tick, Process, Reset, SetSampleRate}
 use Rattle.tape.specs.declared.reader.PushRecord.{PushRecord}
 use Rattle.tape.specs.declared.reader.EditRecord.{EditRecord}
-use Rattle.tape.specs.Pool.{trailPool}
 use Rattle.apply.specs.declared.Applied.{Applied}
 use Rattle.apply.specs.Applying as Engine
 use Rattle.apply.specs.Applying.{appliedTo, appliedOut, silentOf, soundingOf, lentTick, lentBlock, ticking, tickingOut, processing, processingOut}
 use Rattle.apply.specs.RecordCalls.{refusalOf, pushCall, editCall}
-use Rattle.render.specs.Playing.{Played, silent, heard, play}
+use Rattle.tape_extent.specs.Playing.{Played, silent, heard, play}
 use Rattle.plans.specs.Sounding.{length-overlay}
 use Rattle.player.specs.Bytes.{channelsOf}
 use Rattle.render.proofs.Heard.{step-channels, create-few, channels-front, accepted-size, plays-tick, plays-block}
@@ -126,13 +125,13 @@ module _ (s : Sequencer) (l : Ledger) (f : Follows s l) (out : List Float) (long
   follows-edit kind p = quiet (editCall kind p) (edits kind s (p .id) (p .«end_time») (p .«fade_out»)) [] (keep-edit s l kind (p .id .0) (p .«end_time») (p .«fade_out») (f .related))
 
 -- a creation puts a new engine and a new ledger in the place of both
-follows-create : (channels : ℕ) (mode : ReplayMode) (first : ℕ) → first < 2 ^ 64 → (out : List Float) → length out ≡ 512 → (l : Ledger)
-    → Followed (silentOf (created channels mode first)) out (play l (Create channels mode first))
+follows-create : (pool : List Float) (channels : ℕ) (mode : ReplayMode) (first : ℕ) → first < 2 ^ 64 → (out : List Float) → length out ≡ 512 → (l : Ledger)
+    → Followed (silentOf (created channels mode first)) out (play pool l (Create channels mode first))
 unfolding play
-follows-create channels mode first h out long l =
+follows-create pool channels mode first h out long l =
     let o = created channels mode first in
     let r = related-creation channels mode first h in
-    soundless (o .sequencer) (Engine.refusalOf (o .answer)) (play l (Create channels mode first)) out
+    soundless (o .sequencer) (Engine.refusalOf (o .answer)) (play pool l (Create channels mode first)) out
     (record { related = r .0; lawful = create-lawful channels mode first (omega arith); few = create-few channels mode first })
     (same-refusal (o .answer) ∙ ap refusalOf (r .1)) refl long
 
@@ -194,53 +193,53 @@ length-blocked pool n s out = go (eqb (processRefusal n (length out) (s .outputs
     go true = length-overlay (take 64 sum) (omega (arith, length-take 64 sum)) (length out / 64) out (omega arith)
     go false = refl
 
-module _ (s : Sequencer) (l : Ledger) (f : Follows s l) (out : List Float) (long : length out ≡ 512) where
+module _ (pool : List Float) (s : Sequencer) (l : Ledger) (f : Follows s l) (out : List Float) (long : length out ≡ 512) where
   -- no channel is left out of the 8
   outputs : Engine.channelsOf s ≡ l .channels
   outputs = omega (arith, f .related .plain .4, f .few)
 
-  follows-tick : Followed (ticking trailPool s out) (tickingOut trailPool s out) (play l Tick)
+  follows-tick : Followed (ticking pool s out) (tickingOut pool s out) (play pool l Tick)
   unfolding ticking tickingOut
   follows-tick =
       let n : ℕ = Engine.channelsOf s in
       let m : ℕ = lentTick s out in
       let lent : List Float = take m out in
-      let o = step l (tick Forward trailPool lent) in
+      let o = step l (tick Forward pool lent) in
       let size : m ≡ n = omega arith in
       let part : length lent ≡ m = length-take-le m out (omega arith) in
-      let k = subst (λ (j : ℕ). Keeps (gives (ticks Forward trailPool j s) (tickOuts Forward trailPool s lent)) o) part (keep-tick s l Forward trailPool lent (f .lawful) (f .related)) in
-      let plays : heard n 1 1 o ≡ play l Tick = ap (λ (c : ℕ). heard c 1 1 o) outputs ∙ sym (plays-tick l lent (part ∙ size ∙ outputs)) in
-      subst (λ (p : Played). Followed (ticking trailPool s out) (tickingOut trailPool s out) p) plays
-      (sounds s l f out long (tick Forward trailPool lent) (ticks Forward trailPool m s) (tickOuts Forward trailPool s lent) k m n 1 1
-      (length-ticked trailPool s lent ∙ part) (omega arith) (omega arith) (omega arith) (λ h. (omega arith, omega arith)))
+      let k = subst (λ (j : ℕ). Keeps (gives (ticks Forward pool j s) (tickOuts Forward pool s lent)) o) part (keep-tick s l Forward pool lent (f .lawful) (f .related)) in
+      let plays : heard n 1 1 o ≡ play pool l Tick = ap (λ (c : ℕ). heard c 1 1 o) outputs ∙ sym (plays-tick pool l lent (part ∙ size ∙ outputs)) in
+      subst (λ (p : Played). Followed (ticking pool s out) (tickingOut pool s out) p) plays
+      (sounds s l f out long (tick Forward pool lent) (ticks Forward pool m s) (tickOuts Forward pool s lent) k m n 1 1
+      (length-ticked pool s lent ∙ part) (omega arith) (omega arith) (omega arith) (λ h. (omega arith, omega arith)))
 
-  follows-block : (size : ℕ) → Followed (processing trailPool size s out) (processingOut trailPool size s out) (play l (Process size))
+  follows-block : (size : ℕ) → Followed (processing pool size s out) (processingOut pool size s out) (play pool l (Process size))
   unfolding processing processingOut
   follows-block e =
       let n : ℕ = Engine.channelsOf s in
       let m : ℕ = lentBlock s out in
       let lent : List Float = take m out in
-      let o = step l (block Forward e trailPool lent none) in
+      let o = step l (block Forward e pool lent none) in
       let size : m ≡ 64 * n = omega arith in
       let part : length lent ≡ m = length-take-le m out (omega arith) in
-      let k = subst (λ (j : ℕ). Keeps (gives (blocks Forward trailPool e j s) (blockOuts Forward trailPool e s lent)) o) part (keep-block s l Forward e trailPool lent (f .lawful) (f .related)) in
-      let plays : heard n e 64 o ≡ play l (Process e) = ap (λ (c : ℕ). heard c e 64 o) outputs ∙ sym (plays-block l e lent (part ∙ size ∙ ap (λ (c : ℕ). 64 * c) outputs)) in
-      subst (λ (p : Played). Followed (processing trailPool e s out) (processingOut trailPool e s out) p) plays
-      (sounds s l f out long (block Forward e trailPool lent none) (blocks Forward trailPool e m s) (blockOuts Forward trailPool e s lent) k m n e 64
-      (length-blocked trailPool e s lent ∙ part) (omega arith) (omega arith) (omega arith) (λ h. let b = accepted-size l e trailPool lent h in (b, b)))
+      let k = subst (λ (j : ℕ). Keeps (gives (blocks Forward pool e j s) (blockOuts Forward pool e s lent)) o) part (keep-block s l Forward e pool lent (f .lawful) (f .related)) in
+      let plays : heard n e 64 o ≡ play pool l (Process e) = ap (λ (c : ℕ). heard c e 64 o) outputs ∙ sym (plays-block pool l e lent (part ∙ size ∙ ap (λ (c : ℕ). 64 * c) outputs)) in
+      subst (λ (p : Played). Followed (processing pool e s out) (processingOut pool e s out) p) plays
+      (sounds s l f out long (block Forward e pool lent none) (blocks Forward pool e m s) (blockOuts Forward pool e s lent) k m n e 64
+      (length-blocked pool e s lent ∙ part) (omega arith) (omega arith) (omega arith) (λ h. let b = accepted-size l e pool lent h in (b, b)))
 
 -- ---- every record
 
-pub follows : (s : Sequencer) (l : Ledger) (call : Call) (out : List Float) → Readable call → length out ≡ 512 → Follows s l
-    → Followed (appliedTo trailPool s call out) (appliedOut trailPool s call out) (play l call)
+pub follows : (pool : List Float) (s : Sequencer) (l : Ledger) (call : Call) (out : List Float) → Readable call → length out ≡ 512 → Follows s l
+    → Followed (appliedTo pool s call out) (appliedOut pool s call out) (play pool l call)
 unfolding appliedTo appliedOut play
-follows s l (Create channels mode first) out h long f = follows-create channels mode first h out long l
-follows s l (Push p) out h long f = follows-push s l f out long absolute p
-follows s l (PushRelative p) out h long f = follows-push s l f out long relative p
-follows s l (PushDuration p) out h long f = follows-push s l f out long byDuration p
-follows s l (Edit p) out h long f = follows-edit s l f out long absoluteEnd p
-follows s l (EditRelative p) out h long f = follows-edit s l f out long relativeEnd p
-follows s l Tick out h long f = follows-tick s l f out long
-follows s l (Process n) out h long f = follows-block s l f out long n
-follows s l Reset out h long f = quiet s l f out long reset (accepts (resets s)) [] (keep-reset s l (f .lawful) (f .related))
-follows s l (SetSampleRate r) out h long f = quiet s l f out long (rate r) (rates s r) [] (keep-rate s l r (f .lawful) (f .related))
+follows pool s l (Create channels mode first) out h long f = follows-create pool channels mode first h out long l
+follows pool s l (Push p) out h long f = follows-push s l f out long absolute p
+follows pool s l (PushRelative p) out h long f = follows-push s l f out long relative p
+follows pool s l (PushDuration p) out h long f = follows-push s l f out long byDuration p
+follows pool s l (Edit p) out h long f = follows-edit s l f out long absoluteEnd p
+follows pool s l (EditRelative p) out h long f = follows-edit s l f out long relativeEnd p
+follows pool s l Tick out h long f = follows-tick pool s l f out long
+follows pool s l (Process n) out h long f = follows-block pool s l f out long n
+follows pool s l Reset out h long f = quiet s l f out long reset (accepts (resets s)) [] (keep-reset s l (f .lawful) (f .related))
+follows pool s l (SetSampleRate r) out h long f = quiet s l f out long (rate r) (rates s r) [] (keep-rate s l r (f .lawful) (f .related))

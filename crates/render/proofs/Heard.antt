@@ -10,7 +10,6 @@ use lib.Ieee.{Float}
 use lib.ListN.{length, take, drop, replicate, length-append, length-drop, length-replicate}
 use lib.Seq.{length-take-le, take-append-le, drop-append-le, drop-at}
 use borrow.Author.Tests.{ltb-false, leb-true}
-use Rattle.event.specs.declared.Event.{Event}
 use Rattle.event.specs.declared.Edit.{Edit}
 use Rattle.event.specs.declared.MixOrder.the-variants.{Forward}
 use Rattle.event.specs.declared.ReplayMode.{ReplayMode}
@@ -18,17 +17,16 @@ use Rattle.event.specs.declared.ReplayMode.the-variants.{All, None}
 use Rattle.floats.specs.Arithmetic.{_<ᶠ_, _≈ᶠ_, _≤ᶠ_, zeroᶠ, whole}
 use Rattle.ledger.specs.Calls.{Call, push, edit, tick, block, rate, reset, done, refused}
 use Rattle.ledger.specs.Lists.{has}
-use Rattle.ledger.specs.BlockSamples.{blockSum, overlay}
+use Rattle.ledger.specs.BlockSamples.{overlay}
 use Rattle.ledger.specs.Ledger.{Ledger, Created, fresh, create}
 use Rattle.ledger.specs.Refusals.{refuses, firstOf, checks, refusal, editEnd, tickEnd, blockEnd}
-use Rattle.ledger.specs.Steps.{Outcome, step, decide, accept, enter, change, advance, setRate, restart, spanOf, cleared}
-use Rattle.claim.specs.SamplesAgree.{block-channel, length-channel}
+use Rattle.ledger.specs.Steps.{Outcome, step, decide, accept, enter, change, advance, setRate, restart}
 use Rattle.tape.specs.declared.reader.Call.the-variants.{Tick, Process}
-use Rattle.tape.specs.Pool.{trailPool}
 use Rattle.plans.specs.Sounding.{length-row}
 use Rattle.player.specs.Bytes.{channelsOf}
 use Rattle.apply.specs.RecordCalls.{refusalOf}
-use Rattle.render.specs.Playing.{heard, play}
+use Rattle.tape_extent.specs.Playing.{heard, play}
+use Rattle.tape_extent.specs.PacesPlay.{summed, length-summed}
 
 -- ---- channels
 
@@ -122,16 +120,6 @@ module _ (l : Ledger) (pool a b : List Float) (same : length a ≡ length b) whe
       go false true = refl
       go false false = refl
 
--- the run that a block of n sounds in each channel
-summed : Ledger → (n : ℕ) → (pool : List Float) → List Float
-summed l n pool = blockSum pool (spanOf l n) (advance l (blockEnd l n) .sounding) (cleared n) [] .channel
-
-length-summed : (l : Ledger) (n : ℕ) (pool : List Float) → length (summed l n pool) ≡ 8 * ((n + 7) / 8)
-unfolding summed
-length-summed l n pool =
-    let e : List Event = advance l (blockEnd l n) .sounding in
-    ap length (sym (block-channel pool (spanOf l n) e (cleared n) [])) ∙ length-channel pool (spanOf l n) e (cleared n) ∙ length-replicate (8 * ((n + 7) / 8)) zeroᶠ
-
 module _ (l : Ledger) (n : ℕ) (pool : List Float) where
   -- by what the checks 10, 11 and 12 give
   decided : (x y z : Bool) → List Float → Outcome
@@ -178,10 +166,11 @@ module _ (l : Ledger) (n : ℕ) (pool : List Float) where
 
 -- a record's tick or block may be lent any output of the length that it wants
 
-pub plays-tick : (l : Ledger) (out : List Float) → length out ≡ l .channels → play l Tick ≡ heard (l .channels) 1 1 (step l (tick Forward trailPool out))
+pub plays-tick : (pool : List Float) (l : Ledger) (out : List Float) → length out ≡ l .channels → play pool l Tick ≡ heard (l .channels) 1 1 (step l (tick Forward pool out))
 unfolding play
-plays-tick l out h = heard-tick l trailPool (replicate (l .channels) zeroᶠ) out (length-replicate (l .channels) zeroᶠ ∙ sym h)
+plays-tick pool l out h = heard-tick l pool (replicate (l .channels) zeroᶠ) out (length-replicate (l .channels) zeroᶠ ∙ sym h)
 
-pub plays-block : (l : Ledger) (n : ℕ) (out : List Float) → length out ≡ 64 * l .channels → play l (Process n) ≡ heard (l .channels) n 64 (step l (block Forward n trailPool out none))
+pub plays-block : (pool : List Float) (l : Ledger) (n : ℕ) (out : List Float) → length out ≡ 64 * l .channels
+    → play pool l (Process n) ≡ heard (l .channels) n 64 (step l (block Forward n pool out none))
 unfolding play
-plays-block l n out h = heard-block l n trailPool (replicate (64 * l .channels) zeroᶠ) out (length-replicate (64 * l .channels) zeroᶠ) h
+plays-block pool l n out h = heard-block l n pool (replicate (64 * l .channels) zeroᶠ) out (length-replicate (64 * l .channels) zeroᶠ) h

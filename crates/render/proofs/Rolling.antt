@@ -17,14 +17,13 @@ use Rattle.tape.specs.declared.reader.Read.{Read}
 use Rattle.tape.specs.declared.reader.Read.the-variants.{Record, Refused, End}
 use Rattle.tape.specs.Tape.{readAt, recordOf, unknown, sizeOf, kindOf, plainKind, callOf}
 use Rattle.tape.specs.Fields.{Bytes, bytes-drop, field-below}
-use Rattle.tape.specs.Pool.{trailPool}
 use Rattle.apply.specs.declared.Applied.{Applied}
 use Rattle.apply.specs.Applying.{appliedTo, appliedOut}
 use Rattle.player.specs.Bytes.{bytesOf}
 use Rattle.player.specs.Records as Engine
 use Rattle.player.specs.Records.{soundOf, playedFrom, playedInto, played}
-use Rattle.render.specs.Playing.{Played, play}
-use Rattle.render.specs.Rendering.{afterRecord, afterRead, renderedFrom, rendered}
+use Rattle.tape_extent.specs.Playing.{Played, play}
+use Rattle.render.specs.Rendering.{afterRecord, afterRead, renderedFrom, renderedWith}
 use Rattle.render.proofs.Follows.{Follows, Followed, Readable, starts, follows}
 
 -- ---- the call that was read has a number that the machine can hold
@@ -78,31 +77,31 @@ after-same rest rest′ a o p next room f same =
     (λ i. cond (eqb (f .refusal i) 1) [] (cond (ltb room (length (sound i))) [] (sound i ++ rest (a .sequencer) next o (room - length (sound i)))))
     ∙ ap (λ (x : List ℕ). cond (eqb (p .refusal) 1) [] (cond (ltb room n) [] (bytesOf (p .samples) ++ x))) (same (room - n))
 
-record-same : (s : Sequencer) (l : Ledger) (c : Cursor) (samples : List Float) (room : ℕ) → length samples ≡ 512 → Follows s l → (rest : Engine.Rest) (rest′ : Ledger → Cursor → ℕ → List ℕ)
+record-same : (pool : List Float) (s : Sequencer) (l : Ledger) (c : Cursor) (samples : List Float) (room : ℕ) → length samples ≡ 512 → Follows s l → (rest : Engine.Rest) (rest′ : Ledger → Cursor → ℕ → List ℕ)
     → ((s : Sequencer) (l : Ledger) (c : Cursor) (samples : List Float) (room : ℕ) → length samples ≡ 512 → Follows s l → rest s c samples room ≡ rest′ l c room)
-    → (k : ℕ) (call : Call) (next : Cursor) → Readable call → Engine.afterRead trailPool rest (Record k call next) s samples room ≡ afterRead rest′ (Record k call next) l room
+    → (k : ℕ) (call : Call) (next : Cursor) → Readable call → Engine.afterRead pool rest (Record k call next) s samples room ≡ afterRead pool rest′ (Record k call next) l room
 unfolding Engine.afterRead afterRead
-record-same s l c samples room long w rest rest′ same k call next h =
-    let f = follows s l call samples h long w in
-    after-same rest rest′ (appliedTo trailPool s call samples) (appliedOut trailPool s call samples) (play l call) next room f
-    (λ r. same (appliedTo trailPool s call samples .sequencer) (play l call .ledger) next (appliedOut trailPool s call samples) r (f .long) (f .after))
+record-same pool s l c samples room long w rest rest′ same k call next h =
+    let f = follows pool s l call samples h long w in
+    after-same rest rest′ (appliedTo pool s call samples) (appliedOut pool s call samples) (play pool l call) next room f
+    (λ r. same (appliedTo pool s call samples .sequencer) (play pool l call .ledger) next (appliedOut pool s call samples) r (f .long) (f .after))
 
 -- ---- all records
 
-from-same : (t : List ℕ) → Bytes t → (f : ℕ) (s : Sequencer) (l : Ledger) (c : Cursor) (samples : List Float) (room : ℕ) → length samples ≡ 512 → Follows s l
-    → playedFrom trailPool t f s c samples room ≡ renderedFrom t f l c room
+from-same : (pool : List Float) (t : List ℕ) → Bytes t → (f : ℕ) (s : Sequencer) (l : Ledger) (c : Cursor) (samples : List Float) (room : ℕ) → length samples ≡ 512 → Follows s l
+    → playedFrom pool t f s c samples room ≡ renderedFrom pool t f l c room
 unfolding playedFrom renderedFrom
-from-same t bytes zero s l c samples room long w = refl
-from-same t bytes (suc f) s l c samples room long w = go (readAt t c) refl (from-same t bytes f)
+from-same pool t bytes zero s l c samples room long w = refl
+from-same pool t bytes (suc f) s l c samples room long w = go (readAt t c) refl (from-same pool t bytes f)
   where
     go : (r : Read) → readAt t c ≡ r
-        → ((s : Sequencer) (l : Ledger) (c : Cursor) (samples : List Float) (room : ℕ) → length samples ≡ 512 → Follows s l → playedFrom trailPool t f s c samples room ≡ renderedFrom t f l c room)
-        → Engine.afterRead trailPool (playedFrom trailPool t f) r s samples room ≡ afterRead (renderedFrom t f) r l room
-    go (Record k call next) e same = record-same s l c samples room long w (playedFrom trailPool t f) (renderedFrom t f) same k call next (readable t c k call next bytes e)
+        → ((s : Sequencer) (l : Ledger) (c : Cursor) (samples : List Float) (room : ℕ) → length samples ≡ 512 → Follows s l → playedFrom pool t f s c samples room ≡ renderedFrom pool t f l c room)
+        → Engine.afterRead pool (playedFrom pool t f) r s samples room ≡ afterRead pool (renderedFrom pool t f) r l room
+    go (Record k call next) e same = record-same pool s l c samples room long w (playedFrom pool t f) (renderedFrom pool t f) same k call next (readable t c k call next bytes e)
     go (Refused k n) e same = refl
     go End e same = refl
 
 -- what `render` is to give is what the player gives
-pub same-bytes : (t : List ℕ) (room : ℕ) → Bytes t → played trailPool t room ≡ rendered t room
-unfolding playedInto rendered
-same-bytes t room bytes = from-same t bytes (length t) (created 1 All 1 .sequencer) (fresh 1 All 1) (record { at = 0; first = true }) (replicate 512 zeroᶠ) room (length-replicate 512 zeroᶠ) starts
+pub same-bytes : (pool : List Float) (t : List ℕ) (room : ℕ) → Bytes t → played pool t room ≡ renderedWith pool t room
+unfolding playedInto renderedWith
+same-bytes pool t room bytes = from-same pool t bytes (length t) (created 1 All 1 .sequencer) (fresh 1 All 1) (record { at = 0; first = true }) (replicate 512 zeroᶠ) room (length-replicate 512 zeroᶠ) starts

@@ -6,7 +6,7 @@ use lib.ListN.{take, drop}
 use Rattle.tape.specs.Example.{example}
 use Rattle.tape.specs.Fields.{field, fromLittleEndian}
 use Rattle.tape.specs.Tape.{recordOf, unknown, pushKind, sizeOf, callOf, pushOf, sourceOf}
-use Rattle.render.specs.Rendering.{rendered}
+use Rattle.render.specs.Rendering.{renderedWith, rendered}
 
 -- the block's samples 3F800000 and 00000000
 abbrev blockBytes : List ℕ
@@ -14,17 +14,17 @@ blockBytes = 0x00 ∷ 0x00 ∷ 0x80 ∷ 0x3F ∷ 0 ∷ 0 ∷ 0 ∷ 0 ∷ []
 
 -- and the tick's, 00000000
 pub whole-example : rendered example 12 ≡ 0x00 ∷ 0x00 ∷ 0x80 ∷ 0x3F ∷ 0 ∷ 0 ∷ 0 ∷ 0 ∷ 0 ∷ 0 ∷ 0 ∷ 0 ∷ []
-unfolding rendered recordOf unknown pushKind sizeOf callOf pushOf sourceOf field fromLittleEndian
+unfolding renderedWith recordOf unknown pushKind sizeOf callOf pushOf sourceOf field fromLittleEndian
 whole-example = refl
 
 -- the tick does not fit
 pub cut-example : rendered example 11 ≡ blockBytes
-unfolding rendered recordOf unknown pushKind sizeOf callOf pushOf sourceOf field fromLittleEndian
+unfolding renderedWith recordOf unknown pushKind sizeOf callOf pushOf sourceOf field fromLittleEndian
 cut-example = refl
 
 -- nor does the block: nothing is written, though the tick alone would fit
 pub empty-example : rendered example 7 ≡ []
-unfolding rendered recordOf unknown pushKind sizeOf callOf pushOf sourceOf field fromLittleEndian
+unfolding renderedWith recordOf unknown pushKind sizeOf callOf pushOf sourceOf field fromLittleEndian
 empty-example = refl
 
 -- Paper 5: the same tape, its push as 0A with a gain of 0.5, 3F000000: the block's samples are 3F000000 and 00000000
@@ -32,5 +32,5 @@ abbrev gainTape : List ℕ
 gainTape = take 20 example ++ (0x0A ∷ take 42 (drop 21 example) ++ (0 ∷ 0 ∷ 0x00 ∷ 0x3F ∷ drop 63 example))
 
 pub gain-example : rendered gainTape 12 ≡ 0x00 ∷ 0x00 ∷ 0x00 ∷ 0x3F ∷ 0 ∷ 0 ∷ 0 ∷ 0 ∷ 0 ∷ 0 ∷ 0 ∷ 0 ∷ []
-unfolding rendered recordOf unknown pushKind sizeOf callOf pushOf sourceOf field fromLittleEndian
+unfolding renderedWith recordOf unknown pushKind sizeOf callOf pushOf sourceOf field fromLittleEndian
 gain-example = refl

@@ -1,3 +1,3 @@
-pub mod Playing
 pub mod Rendering
 pub mod Example
+pub mod Room

@@ -1,7 +1,8 @@
--- Document 01's C entry: the bytes that the plain ledger's samples for a tape make. No engine stands here. Assumes nothing.
+-- Document 01's C entry, with any pool: the bytes that the plain ledger's samples for a tape make. No engine stands here. Assumes nothing.
 use mathlib.Core.List.{List, [], _++_}
 use mathlib.Core.Bool.{true, cond}
 use Prim.Native.Nat.{ℕ, zero, suc, _-_}
+use lib.Ieee.{Float}
 use lib.ListN.{length}
 use lib.Dec.{ltb, eqb}
 use Rattle.event.specs.declared.ReplayMode.the-variants.{All}
@@ -10,8 +11,9 @@ use Rattle.tape.specs.declared.reader.Cursor.{Cursor}
 use Rattle.tape.specs.declared.reader.Read.{Read}
 use Rattle.tape.specs.declared.reader.Read.the-variants.{Record, Refused, End}
 use Rattle.tape.specs.Tape.{readAt}
+use Rattle.tape.specs.Pool.{trailPool}
 use Rattle.player.specs.Bytes.{bytesOf}
-use Rattle.render.specs.Playing.{Played, play}
+use Rattle.tape_extent.specs.Playing.{Played, play}
 
 -- the rest of a rendering: from a ledger and a cursor on, with so much room left
 abbrev pub Rest : Type 0
@@ -25,19 +27,23 @@ afterRecord rest p next room =
     cond (eqb (p .refusal) 1) [] (cond (ltb room (length bytes)) [] (bytes ++ rest (p .ledger) next (room - length bytes)))
 
 -- 14, 15 and the tape's end stop it
-unfoldable pub afterRead : Rest → Read → Ledger → (room : ℕ) → List ℕ
+unfoldable pub afterRead : (pool : List Float) → Rest → Read → Ledger → (room : ℕ) → List ℕ
 unfolding afterRecord play
-afterRead rest (Record kind call next) l room = afterRecord rest (play l call) next room
-afterRead rest (Refused kind number) l room = []
-afterRead rest End l room = []
+afterRead pool rest (Record kind call next) l room = afterRecord rest (play pool l call) next room
+afterRead pool rest (Refused kind number) l room = []
+afterRead pool rest End l room = []
 
 -- at most f records
-unfoldable pub renderedFrom : (tape : List ℕ) → (f : ℕ) → Rest
+unfoldable pub renderedFrom : (pool : List Float) → (tape : List ℕ) → (f : ℕ) → Rest
 unfolding afterRead readAt
-renderedFrom tape zero l c room = []
-renderedFrom tape (suc f) l c room = afterRead (renderedFrom tape f) (readAt tape c) l room
+renderedFrom pool tape zero l c room = []
+renderedFrom pool tape (suc f) l c room = afterRead pool (renderedFrom pool tape f) (readAt tape c) l room
 
 -- A tape has no more records than bytes. Its first record, 00, replaces the ledger that stands here before it.
-unfoldable pub rendered : (tape : List ℕ) → (room : ℕ) → List ℕ
+unfoldable pub renderedWith : (pool : List Float) → (tape : List ℕ) → (room : ℕ) → List ℕ
 unfolding renderedFrom fresh
-rendered tape room = renderedFrom tape (length tape) (fresh 1 All 1) (record { at = 0; first = true }) room
+renderedWith pool tape room = renderedFrom pool tape (length tape) (fresh 1 All 1) (record { at = 0; first = true }) room
+
+-- "with `trail`'s pool"
+abbrev pub rendered : (tape : List ℕ) → (room : ℕ) → List ℕ
+rendered tape room = renderedWith trailPool tape room

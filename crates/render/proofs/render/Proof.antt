@@ -3,6 +3,7 @@ use mathlib.Core.Path.{_≡_, subst}
 use mathlib.Core.List.{List, _++_}
 use Prim.Native.Nat.{ℕ}
 use lib.ListN.{length, drop}
+use Rattle.tape.specs.Pool.{trailPool}
 use Rattle.render.proofs.Rolling.{same-bytes}
 use borrow.Author.Needs.{needs}
 use Rattle.render.proofs.render.Statement.{statement}
@@ -13,7 +14,7 @@ returns c =
     let t = c .before .before .before .before .before .before .args .tape .now in
     let out = c .before .before .before .before .before .before .args .out .now in
     let n = c .before .before .play .result in
-    subst (λ (w : List ℕ). (n ≡ length w) × (c .before .before .play .last .1 .0 ≡ w ++ drop n out)) (same-bytes t (length out) (λ i. c .before .before .before .before .before .shared-slice-known .given i .fits)) (c .before .before .play .ensures)
+    subst (λ (w : List ℕ). (n ≡ length w) × (c .before .before .play .last .1 .0 ≡ w ++ drop n out)) (same-bytes trailPool t (length out) (λ i. c .before .before .before .before .before .shared-slice-known .given i .fits)) (c .before .before .play .ensures)
 
 pub render-spec : {M : Type 1} → statement M
 render-spec = tie.close

@@ -13,7 +13,6 @@ use Rattle.ledger.specs.Ledger.{Ledger, create}
 use Rattle.ledger.specs.Steps.{Outcome, step}
 use Rattle.tape.specs.declared.reader.Call.{Call}
 use Rattle.tape.specs.declared.reader.Call.the-variants.{Create, Push, PushRelative, PushDuration, Edit, EditRelative, Tick, Process, Reset, SetSampleRate}
-use Rattle.tape.specs.Pool.{trailPool}
 use Rattle.apply.specs.RecordCalls.{refusalOf, pushCall, editCall}
 use Rattle.player.specs.Bytes.{channelsOf}
 
@@ -33,18 +32,18 @@ heard c n w o =
     let no = refusalOf (o .reply .answer) in
     record { ledger = o .ledger; refusal = no; samples = cond (eqb no 0) (channelsOf c n w (o .reply .out)) [] }
 
--- A tick or block is lent the pool of `trail` and an output of the length that it wants.
-unfoldable pub play : Ledger → Call → Played
+-- A tick or block is lent the pool and an output of the length that it wants.
+unfoldable pub play : (pool : List Float) → Ledger → Call → Played
 unfolding create step heard
-play l (Create channels mode first) =
+play pool l (Create channels mode first) =
     let o = create channels mode first in
     record { ledger = o .ledger; refusal = refusalOf (o .answer); samples = [] }
-play l (Push p) = silent (step l (pushCall absolute p))
-play l (PushRelative p) = silent (step l (pushCall relative p))
-play l (PushDuration p) = silent (step l (pushCall byDuration p))
-play l (Edit p) = silent (step l (editCall absoluteEnd p))
-play l (EditRelative p) = silent (step l (editCall relativeEnd p))
-play l Tick = heard (l .channels) 1 1 (step l (tick Forward trailPool (replicate (l .channels) zeroᶠ)))
-play l (Process n) = heard (l .channels) n 64 (step l (block Forward n trailPool (replicate (64 * l .channels) zeroᶠ) none))
-play l Reset = silent (step l reset)
-play l (SetSampleRate r) = silent (step l (rate r))
+play pool l (Push p) = silent (step l (pushCall absolute p))
+play pool l (PushRelative p) = silent (step l (pushCall relative p))
+play pool l (PushDuration p) = silent (step l (pushCall byDuration p))
+play pool l (Edit p) = silent (step l (editCall absoluteEnd p))
+play pool l (EditRelative p) = silent (step l (editCall relativeEnd p))
+play pool l Tick = heard (l .channels) 1 1 (step l (tick Forward pool (replicate (l .channels) zeroᶠ)))
+play pool l (Process n) = heard (l .channels) n 64 (step l (block Forward n pool (replicate (64 * l .channels) zeroᶠ) none))
+play pool l Reset = silent (step l reset)
+play pool l (SetSampleRate r) = silent (step l (rate r))

@@ -1,0 +1,14 @@
+-- `tape_extent::rate_of` meets its contract. Assumes nothing.
+use borrow.Author.Tests.{eq-eqb, ne-eqb}
+use borrow.Author.Needs.{needs}
+use Rattle.tape_extent.proofs.rate_of.Statement.{statement}
+use Rattle.tape_extent.proofs.rate_of.Tie as tie
+
+returns : tie.Need-returns
+returns c = rw (eq-eqb _ _ (c .if1 .taken))
+
+returns-2 : tie.Need-returns-2
+returns-2 c = rw (ne-eqb _ _ (c .if1 .left))
+
+pub rate-of-spec : {M : Type 1} → statement M
+rate-of-spec = tie.close (tie.spec returns returns-2)

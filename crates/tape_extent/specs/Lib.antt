@@ -1,0 +1,4 @@
+pub mod Playing
+pub mod Extents
+pub mod Paces
+pub mod PacesPlay
