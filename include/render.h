@@ -34,7 +34,7 @@ size_t render(const uint8_t *tape, size_t tape_length, uint8_t *out, size_t out_
  *   rate      of the last samples, in Hz: 44,100 where there are none;
  *   one_rate  whether all samples are at that rate;
  *   ended     what ends the tape: refusal 1, 14 or 15, or 0 at its end.
- * Each pointer is to one place of its own, aligned as its type is. The stack needs less than 16 KB. */
+ * Each pointer is to one place of its own, aligned as its type is. The stack needs less than 4 KB. */
 void tape_info(const uint8_t *tape, size_t tape_length, uint64_t *bytes, uint64_t *frames, uint64_t *channels,
                double *rate, bool *one_rate, uint64_t *ended);
 
