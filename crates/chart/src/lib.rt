@@ -63,6 +63,7 @@ pub const LEFT: u64 = 170;
 // Where a time stands on the page.
 pub fn x(time: u64, total: u64) -> u64
     ensures { λ r. ⌜ r ≡ xOf time total ⌝ }
+    ensures { λ r. ⌜ r ≤ 1_570 ⌝ }
 {
     LEFT + column(time, total)
 }
@@ -96,6 +97,7 @@ pub fn lanes_end(n: u64) -> u64
 // The top of a channel's wave below n lanes, and of what stands below the last channel.
 pub fn wave(n: u64, channel: u64) -> u64
     ensures { λ r. ⌜ r ≡ waveOf n channel ⌝ }
+    ensures { λ r. ⌜ r ≤ 35_184_372_089_608 ⌝ }
 {
     lanes_end(n) + 40 + least(channel, 8) * 90
 }
@@ -137,6 +139,7 @@ pub fn scaled(bits: u32, scale: u32) -> u64
 // How high a peak stands on a page where 1.0 is so high.
 pub fn height(bits: u32, full: u32) -> u64
     ensures { λ r. ⌜ r ≡ heightOf bits full ⌝ }
+    ensures { λ r. ⌜ r ≤ full ⌝ }
 {
     least(scaled(bits, full), wide(full))
 }

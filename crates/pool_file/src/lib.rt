@@ -1,6 +1,8 @@
-// The pool that clips read, from a file: a WAV of one channel of 32-bit floats, or such samples and nothing else. For programs: of what a call of C's reads no contract can speak.
+// The pool that clips read, from a file: a WAV of one channel of 32-bit floats, or such samples and nothing else. For programs: of what a call of C's reads no contract can speak, so `load` promises no
+// more than a bound. Where the samples stand, how many there are and what ends them is decided by the functions above it, by the definitions of specs/Pools.antt.
 ghost use mathlib.Core.Path.{_≡_};
 ghost use lib.ListN.{length};
+ghost use Rattle.pool_file.specs.Pools.{isOption, monoFloat, knownBy, placeOf, nowhere as noPlace};
 use tape::fields;
 
 // Room for the longest pool.
@@ -17,7 +19,9 @@ struct Place {
     known: bool,
 }
 
-fn nowhere() -> Place {
+fn nowhere() -> Place
+    ensures { λ r. ⌜ r ≡ noPlace ⌝ }
+{
     Place {
         from: 0,
         size: 0,
@@ -26,26 +30,38 @@ fn nowhere() -> Place {
 }
 
 // Whether a format is one channel of IEEE floats of 32 bits, by its number or, in the long form, by that of its kind.
-fn is_mono_float(head: &[u8], at: usize) -> bool {
-    if 65536 < at {
-        return false;
-    }
-    let tag = fields::word(head, at, 2);
-    let kind = fields::word(head, at + 24, 2);
+fn is_mono_float(head: &[u8], at: usize) -> bool
+    requires { ⌜ at ≤ 65_544 ⌝ }
+    ensures { λ r. ⌜ r ≡ monoFloat (now (head .entry)) at ⌝ }
+{
     if fields::word(head, at + 2, 2) != 1 {
         return false;
     }
     if fields::word(head, at + 14, 2) != 32 {
         return false;
     }
-    if tag == 3 {
-        return true;
+    let tag = fields::word(head, at, 2);
+    if tag == 0xFFFE {
+        return fields::word(head, at + 24, 2) == 3;
     }
-    tag == 0xFFFE && kind == 3
+    tag == 3
+}
+
+// Whether the format is known behind the chunk at a place.
+fn known_by(head: &[u8], at: usize, known: bool) -> bool
+    requires { ⌜ at ≤ 65_536 ⌝ }
+    ensures { λ r. ⌜ r ≡ knownBy (now (head .entry)) at known ⌝ }
+{
+    if fields::word32(head, at) == 0x2074_6D66 {
+        return is_mono_float(head, at + 8);
+    }
+    known
 }
 
 // The chunk `data` of a WAV, among the file's first bytes; a file that is no RIFF is all samples.
-fn find_samples(head: &[u8]) -> Place {
+fn find_samples(head: &[u8]) -> Place
+    ensures { λ r. ⌜ r ≡ placeOf (now (head .entry)) ⌝ }
+{
     if fields::word32(head, 0) != 0x4646_4952 {
         return Place {
             from: 0,
@@ -73,12 +89,20 @@ fn find_samples(head: &[u8]) -> Place {
                 known,
             };
         }
-        if name == 0x2074_6D66 {
-            known = is_mono_float(head, at + 8);
-        }
+        known = known_by(head, at, known);
         at = at + 8 + size + size % 2;
     }
     nowhere()
+}
+
+// Whether an argument is `--pool`, behind which the file's name stands.
+pub fn is_option(argument: &[u8]) -> bool
+    ensures { λ r. ⌜ r ≡ isOption (now (argument .entry)) ⌝ }
+{
+    if argument.len() != 6 {
+        return false;
+    }
+    fields::word(argument, 0, 6) == 0x6C6F_6F70_2D2D
 }
 
 // How many samples a pool has; `good` where it can be used.
@@ -87,7 +111,9 @@ pub struct Loaded {
     pub good: bool,
 }
 
-fn refused(text: &[u8]) -> Loaded {
+fn refused(text: &[u8]) -> Loaded
+    ensures { λ r. ⌜ r .count ≡ 0 ⌝ }
+{
     io::write_all(2, b"POOL: ");
     io::write_all(2, text);
     Loaded {
@@ -181,21 +207,29 @@ fn fill(fd: i32, buf: &mut [u8], pool: &mut [f32], from: Filling) -> Filling {
     s
 }
 
-fn answer(s: Filling) -> Loaded {
-    if s.ended == 1 {
-        return Loaded {
-            count: s.count,
-            good: true,
-        };
+// What a pool with so much room came to.
+fn answer(s: Filling, room: usize) -> Loaded
+    ensures { λ r. ⌜ r .count ≤ room ⌝ }
+{
+    if s.ended == 2 {
+        return refused(b"cannot be read\n");
     }
-    if s.ended == 3 {
+    if s.ended != 1 {
         return refused(b"more samples than there is room for\n");
     }
-    refused(b"cannot be read\n")
+    if room < s.count {
+        return refused(b"more samples than there is room for\n");
+    }
+    Loaded {
+        count: s.count,
+        good: true,
+    }
 }
 
 // Puts the samples of a file into `pool`. What is wrong is said on standard error.
-pub fn load(fd: i32, pool: &mut [f32]) -> Loaded {
+pub fn load(fd: i32, pool: &mut [f32]) -> Loaded
+    ensures { λ r. ⌜ r .count ≤ length (now (pool .entry)) ⌝ }
+{
     let mut buf = io::large_buffer();
     let n = io::read_full(fd, &mut buf);
     let p = find_samples(&buf[..n]);
@@ -211,5 +245,6 @@ pub fn load(fd: i32, pool: &mut [f32]) -> Loaded {
         count: 0,
         ended: 0,
     };
-    answer(fill(fd, &mut buf, pool, s))
+    let end = fill(fd, &mut buf, pool, s);
+    answer(end, pool.len())
 }

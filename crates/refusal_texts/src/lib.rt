@@ -1,115 +1,105 @@
 // The refusals of documents 01 and 02 in words: one table for every page, in four parts.
 ghost use mathlib.Core.Path.{_≡_};
-ghost use Rattle.listing.specs.Putting.{put as putAt, putLength};
+ghost use Rattle.listing.specs.Pieces.{text, add};
 ghost use Rattle.refusal_texts.specs.Texts.{textOf, firstTexts, secondTexts, thirdTexts, lastTexts};
+use listing::pieces::put_bytes;
 
-// Puts a text at the front of a lent buffer.
-fn put(text: &[u8], out: &mut [u8]) -> usize
-    ensures { λ _. ⌜ now (out .exit) ≡ putAt (now (text .entry)) (now (out .entry)) ⌝ }
-    ensures { λ r. ⌜ r ≡ putLength (now (text .entry)) (now (out .entry)) ⌝ }
-{
-    if out.len() < text.len() {
-        return 0;
-    }
-    let mut i = 0;
-    while i < text.len() {
-        out[i] = text[i];
-        i = i + 1;
-    }
-    text.len()
-}
-
-fn first_texts(number: u64, out: &mut [u8]) -> usize
-    ensures { λ _. ⌜ now (out .exit) ≡ putAt (firstTexts number) (now (out .entry)) ⌝ }
-    ensures { λ r. ⌜ r ≡ putLength (firstTexts number) (now (out .entry)) ⌝ }
+fn first_texts(number: u64, out: &mut [u8], at: usize) -> usize
+    ensures { λ r. ⌜ text (now (out .exit)) r ≡ add (firstTexts number) (text (now (out .entry)) at) ⌝ }
 {
     match number {
-        1 => put(
+        1 => put_bytes(
             b"the channels are not 1 to 8, or the first number is 0",
             out,
+            at,
         ),
-        2 => put(b"a rate is not from 1 to 1,000,000", out),
-        3 => put(
+        2 => put_bytes(b"a rate is not from 1 to 1,000,000", out, at),
+        3 => put_bytes(
             b"a time or fade is not a number, or is beyond 1,000,000,000",
             out,
+            at,
         ),
-        4 => put(b"a fade is longer than the clip", out),
-        5 => put(b"a level, ramp value or step is not finite", out),
-        6 => put(b"256 clips are held", out),
-        _ => put(b"no refusal", out),
+        4 => put_bytes(b"a fade is longer than the clip", out, at),
+        5 => put_bytes(b"a level, ramp value or step is not finite", out, at),
+        6 => put_bytes(b"256 clips are held", out, at),
+        _ => put_bytes(b"no refusal", out, at),
     }
 }
 
-fn second_texts(number: u64, out: &mut [u8]) -> usize
-    ensures { λ _. ⌜ now (out .exit) ≡ putAt (secondTexts number) (now (out .entry)) ⌝ }
-    ensures { λ r. ⌜ r ≡ putLength (secondTexts number) (now (out .entry)) ⌝ }
+fn second_texts(number: u64, out: &mut [u8], at: usize) -> usize
+    ensures { λ r. ⌜ text (now (out .exit)) r ≡ add (secondTexts number) (text (now (out .entry)) at) ⌝ }
 {
     match number {
-        7 => put(b"the last number has been given", out),
-        8 => put(
+        7 => put_bytes(b"the last number has been given", out, at),
+        8 => put_bytes(
             b"an edit's end or fade is not a number, or is beyond 1,000,000,000",
             out,
+            at,
         ),
-        9 => put(b"256 edits are stored", out),
-        10 => put(b"the lent output has another length", out),
-        11 => put(b"a block is longer than 64", out),
-        12 => put(b"the clock would pass 1,000,000,000 s", out),
-        _ => put(b"no refusal", out),
+        9 => put_bytes(b"256 edits are stored", out, at),
+        10 => put_bytes(b"the lent output has another length", out, at),
+        11 => put_bytes(b"a block is longer than 64", out, at),
+        12 => put_bytes(b"the clock would pass 1,000,000,000 s", out, at),
+        _ => put_bytes(b"no refusal", out, at),
     }
 }
 
-fn third_texts(number: u64, out: &mut [u8]) -> usize
-    ensures { λ _. ⌜ now (out .exit) ≡ putAt (thirdTexts number) (now (out .entry)) ⌝ }
-    ensures { λ r. ⌜ r ≡ putLength (thirdTexts number) (now (out .entry)) ⌝ }
+fn third_texts(number: u64, out: &mut [u8], at: usize) -> usize
+    ensures { λ r. ⌜ text (now (out .exit)) r ≡ add (thirdTexts number) (text (now (out .entry)) at) ⌝ }
 {
     match number {
-        13 => put(b"64 messages are queued", out),
-        14 => put(
+        13 => put_bytes(b"64 messages are queued", out, at),
+        14 => put_bytes(
             b"a kind, mode, curve or source byte is unknown, or 00 is not first and only first",
             out,
+            at,
         ),
-        15 => put(b"the tape ends inside a record", out),
-        16 => put(
+        15 => put_bytes(b"the tape ends inside a record", out, at),
+        16 => put_bytes(
             b"a chapter has more than 32 records, or its slice another length",
             out,
+            at,
         ),
-        17 => put(
+        17 => put_bytes(
             b"a stretch is empty or not a number, or its slice has another length",
             out,
+            at,
         ),
-        18 => put(b"a gain is not finite", out),
-        _ => put(b"no refusal", out),
+        18 => put_bytes(b"a gain is not finite", out, at),
+        _ => put_bytes(b"no refusal", out, at),
     }
 }
 
-fn last_texts(number: u64, out: &mut [u8]) -> usize
-    ensures { λ _. ⌜ now (out .exit) ≡ putAt (lastTexts number) (now (out .entry)) ⌝ }
-    ensures { λ r. ⌜ r ≡ putLength (lastTexts number) (now (out .entry)) ⌝ }
+fn last_texts(number: u64, out: &mut [u8], at: usize) -> usize
+    ensures { λ r. ⌜ text (now (out .exit)) r ≡ add (lastTexts number) (text (now (out .entry)) at) ⌝ }
 {
     match number {
-        19 => put(b"the record does not fit behind the free place", out),
-        20 => put(b"a peak's window is not from 1 to 4,096", out),
-        21 => put(b"the lodge's windows, minute or length are not proper", out),
-        22 => put(b"every window is shorter than the length", out),
-        23 => put(b"the count of pushes is not from 1 to 256", out),
-        24 => put(b"a preview's first entry is above 1,024", out),
-        _ => put(b"no refusal", out),
+        19 => put_bytes(b"the record does not fit behind the free place", out, at),
+        20 => put_bytes(b"a peak's window is not from 1 to 4,096", out, at),
+        21 => put_bytes(
+            b"the lodge's windows, minute or length are not proper",
+            out,
+            at,
+        ),
+        22 => put_bytes(b"every window is shorter than the length", out, at),
+        23 => put_bytes(b"the count of pushes is not from 1 to 256", out, at),
+        24 => put_bytes(b"a preview's first entry is above 1,024", out, at),
+        _ => put_bytes(b"no refusal", out, at),
     }
 }
 
-// Puts the text of a refusal at the front of a lent buffer, and answers how long it is. A buffer too short for it stays as it is, and the answer is 0.
-pub fn refusal_text(number: u64, out: &mut [u8]) -> usize
-    ensures { λ _. ⌜ now (out .exit) ≡ putAt (textOf number) (now (out .entry)) ⌝ }
-    ensures { λ r. ⌜ r ≡ putLength (textOf number) (now (out .entry)) ⌝ }
+// Puts the text of a refusal into a lent buffer, and answers the next free place. A text that has no room is left out, and the place stays.
+pub fn refusal_text(number: u64, out: &mut [u8], at: usize) -> usize
+    ensures { λ r. ⌜ text (now (out .exit)) r ≡ add (textOf number) (text (now (out .entry)) at) ⌝ }
 {
     if number < 7 {
-        return first_texts(number, out);
+        return first_texts(number, out, at);
     }
     if number < 13 {
-        return second_texts(number, out);
+        return second_texts(number, out, at);
     }
     if number < 19 {
-        return third_texts(number, out);
+        return third_texts(number, out, at);
     }
-    last_texts(number, out)
+    last_texts(number, out, at)
 }

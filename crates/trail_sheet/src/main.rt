@@ -1,4 +1,402 @@
-// `trail_sheet TAPE > page.svg`: a tape as a page to look at (crate tape_pages).
+// `trail_sheet TAPE > page.svg`: a tape as a page to look at: a lane for each clip, marks for edits and refused calls, the wave of each channel, and the sum. The tape is played twice: once for the page's
+// measures, once to draw. Of what is written no contract speaks, since the kit's io has no model of standard output: the elements are crate tape_sheet, where they stand is crate chart, where a clip
+// stands is crate tape_tracks, and the calls are the engine's.
+mod page;
+mod waves;
+
+ghost use mathlib.Core.Path.{_≡_};
+ghost use lib.ListN.{length};
+use page::LastMark;
+use page::Page;
+use sequencer::Sequencer;
+use tape::reader::Cursor;
+use tape::reader::Read;
+
+// The record at a place of the file: its first 64 bytes are read, and a record needs no more than 47 (tape, specs/Window). `next.at` is the record's length. A failed read counts as the tape's end.
+fn record(fd: i32, at: u64, first: bool) -> Read {
+    if 0x7fff_ffff_ffff_ffff < at {
+        return Read::End;
+    }
+    let mut buf = [0u8; 64];
+    let got = libc::pread(fd, &mut buf, at as i64);
+    if got < 0 {
+        io::write_all(2, b"trail_sheet: the tape cannot be read on\n");
+        return Read::End;
+    }
+    let n = io::count(got, &buf);
+    let c = Cursor { at: 0, first };
+    if n <= 64 {
+        return c.read(&buf[..n]);
+    }
+    Read::End
+}
+
+// ---- clips
+
+// Draws a clip that stands elsewhere than it did, and answers since when it stands where it does. What is let go stands so up to the page's end.
+fn draw_move(page: Page, clip: u64, was: u64, to: u64, from: u64, now: u64) -> u64 {
+    if to == was {
+        return from;
+    }
+    page::segment(page, clip, was, from, now);
+    if to == tape_tracks::LET_GO {
+        page::segment(page, clip, to, now, page.total);
+    }
+    now
+}
+
+// Draws how every clip moved, keeps those that are held, and answers how many they are.
+fn follow(
+    page: Page,
+    s: Sequencer,
+    clips: &mut [u64],
+    places: &mut [u64],
+    since: &mut [u64],
+    count: usize,
+    now: u64,
+) -> usize {
+    let mut kept = 0;
+    let mut i = 0;
+    while i < count {
+        let clip = tape_tracks::at(clips, i);
+        let to = tape_tracks::stands(s, clip);
+        let from = draw_move(
+            page,
+            clip,
+            tape_tracks::at(places, i),
+            to,
+            tape_tracks::at(since, i),
+            now,
+        );
+        tape_tracks::set(clips, kept, clip);
+        tape_tracks::set(places, kept, to);
+        tape_tracks::set(since, kept, from);
+        kept = tape_tracks::next_place(kept, to);
+        i = i + 1;
+    }
+    kept
+}
+
+// The same where a count has changed.
+fn follow_if(
+    moved: bool,
+    page: Page,
+    s: Sequencer,
+    clips: &mut [u64],
+    places: &mut [u64],
+    since: &mut [u64],
+    count: usize,
+    now: u64,
+) -> usize {
+    if moved {
+        return follow(page, s, clips, places, since, count, now);
+    }
+    count
+}
+
+// A clip that was laid is drawn, and held from now on.
+fn enter_if(
+    laid: bool,
+    page: Page,
+    clips: &mut [u64],
+    places: &mut [u64],
+    since: &mut [u64],
+    count: usize,
+    clip: u64,
+    place: u64,
+    now: u64,
+) -> usize {
+    if laid {
+        page::lay(page, clip, place, now);
+        tape_tracks::set(clips, count, clip);
+        tape_tracks::set(places, count, place);
+        tape_tracks::set(since, count, now);
+        return tape_tracks::next_place(count, place);
+    }
+    count
+}
+
+fn hear_if(
+    page: Page,
+    peaks: &mut [u32],
+    samples: &[f32],
+    channels: usize,
+    each: usize,
+    stride: usize,
+    from: u64,
+    to: u64,
+) {
+    if page.draw {
+        waves::hear(page.total, peaks, samples, channels, each, stride, from, to);
+    }
+}
+
+fn both(a: bool, b: bool) -> bool {
+    if a { b } else { false }
+}
+
+// The first number: the next one of a fresh engine.
+fn first_if(kind: u8, s: Sequencer, number: u64) -> u64 {
+    if kind == 0 {
+        return s.next;
+    }
+    number
+}
+
+// What was played before the clock's 0: a reset sets the clock back.
+fn base_if(kind: u8, now: u64, base: u64) -> u64 {
+    if kind == 8 {
+        return now;
+    }
+    base
+}
+
+// What is held at the end stands so up to the end.
+fn finish(page: Page, clips: &[u64], places: &[u64], since: &[u64], count: usize) {
+    let mut i = 0;
+    while i < count {
+        page::segment(
+            page,
+            tape_tracks::at(clips, i),
+            tape_tracks::at(places, i),
+            tape_tracks::at(since, i),
+            page.total,
+        );
+        i = i + 1;
+    }
+}
+
+fn stop_of(r: Read) -> u64 {
+    match r {
+        Read::Refused { kind: _, number: n } => n as u64,
+        _ => 0,
+    }
+}
+
+// What is known at the tape's end: the page to draw; in drawing, the page is ended.
+fn end_of(
+    page: Page,
+    s: Sequencer,
+    peaks: &[u32],
+    clips: &[u64],
+    places: &[u64],
+    since: &[u64],
+    count: usize,
+    first: u64,
+    base: u64,
+    pushes: u64,
+    stop: u64,
+) -> Page {
+    if page.draw {
+        finish(page, clips, places, since, count);
+        page::close(page, s, peaks, pushes, stop);
+    }
+    Page {
+        draw: true,
+        total: chart::later(base, chart::micros(s.time)),
+        lanes: pushes,
+        first,
+        channels: s.outputs as u64,
+    }
+}
+
+// Plays the tape. What it answers is the page to draw, of which `total`, `lanes`, `first` and `channels` are known at the end.
+fn play(
+    fd: i32,
+    page: Page,
+    pool: &[f32],
+    samples: &mut [f32],
+    peaks: &mut [u32],
+    clips: &mut [u64],
+    places: &mut [u64],
+    since: &mut [u64],
+) -> Page {
+    let mut s = apply::start();
+    let mut count: usize = 0;
+    let mut pushes: u64 = 0;
+    let mut number: u64 = 1;
+    let mut base: u64 = 0;
+    let mut m = LastMark { x: 0, row: 0 };
+    let mut first = true;
+    let mut at: u64 = 0;
+    let mut turns = u64::MAX;
+    while turns > 0 {
+        turns = turns - 1;
+        let r = record(fd, at, first);
+        let Read::Record { kind, call, next } = r else {
+            return end_of(
+                page,
+                s,
+                peaks,
+                clips,
+                places,
+                since,
+                count,
+                number,
+                base,
+                pushes,
+                stop_of(r),
+            );
+        };
+        let now = chart::later(base, chart::micros(s.time));
+        let clip = s.next;
+        let counts = s.counts();
+        let told = tape_tracks::answer_of(s, call);
+        let a = apply::apply(s, call, pool, samples);
+        s = a.sequencer;
+        let refusal = a.refusal;
+        number = first_if(kind, s, number);
+        base = base_if(kind, now, base);
+        let laid = both(refusal == 0, tape::reader::is_push(kind));
+        let place = tape_tracks::place_if(laid, s, clip);
+        count = enter_if(laid, page, clips, places, since, count, clip, place, now);
+        pushes = tape_tracks::one_more_if(laid, pushes);
+        m = page::mark(page, m, kind, tape_tracks::edited(call), refusal, told, now);
+        let moved = !tape_tracks::is_same(counts, s.counts());
+        count = follow_if(moved, page, s, clips, places, since, count, now);
+        let to = chart::later(base, chart::micros(s.time));
+        hear_if(page, peaks, samples, a.channels, a.each, a.stride, now, to);
+        if refusal == 1 {
+            return end_of(
+                page,
+                s,
+                peaks,
+                clips,
+                places,
+                since,
+                count,
+                number,
+                base,
+                pushes,
+                1,
+            );
+        }
+        first = next.first;
+        at = std::num::wrapping_add_u64(at, next.at as u64);
+    }
+    page
+}
+
+fn silent_peaks() -> [u32; 11208]
+    ensures { λ r. ⌜ length r ≡ 11208 ⌝ }
+{
+    [0; 11208]
+}
+
+// Two plays: for the page's measures, and to draw it.
+fn draw(
+    fd: i32,
+    tape: &[u8],
+    pool: &[f32],
+    samples: &mut [f32],
+    peaks: &mut [u32],
+    clips: &mut [u64],
+    places: &mut [u64],
+    since: &mut [u64],
+) {
+    let blank = Page {
+        draw: false,
+        total: 0,
+        lanes: 0,
+        first: 1,
+        channels: 1,
+    };
+    let page = play(fd, blank, pool, samples, peaks, clips, places, since);
+    page::open(page, tape);
+    play(fd, page, pool, samples, peaks, clips, places, since);
+}
+
+// ---- arguments
+
+fn usage() {
+    io::write_all(2, b"usage: trail_sheet TAPE [--pool FILE]\n");
+    io::write_all(
+        2,
+        b"Draws the tape TAPE as an SVG page on standard output.\n",
+    );
+    io::write_all(
+        2,
+        b"Clips read from FILE, a WAV of one channel of 32-bit floats or a file of such samples; without it, from document 01's pool.\n",
+    );
+}
+
+// Draws the file that a path names, with a pool.
+fn draw_file(tape: &[u8], pool: &[f32]) {
+    let fd = os::open_read(tape);
+    if fd < 0 {
+        os::fail(tape);
+        return;
+    }
+    let mut samples = apply::silence();
+    let mut peaks = silent_peaks();
+    let mut clips = tape_tracks::row();
+    let mut places = tape_tracks::row();
+    let mut since = tape_tracks::row();
+    draw(
+        fd,
+        tape,
+        pool,
+        &mut samples,
+        &mut peaks,
+        &mut clips,
+        &mut places,
+        &mut since,
+    );
+    libc::close(fd);
+}
+
+fn with_trail_pool(tape: &[u8]) {
+    let pool = tape::pool::trail_pool();
+    draw_file(tape, &pool);
+}
+
+fn with_pool(tape: &[u8], path: &[u8]) {
+    let fd = os::open_read(path);
+    if fd < 0 {
+        os::fail(path);
+        return;
+    }
+    let mut pool = pool_file::room();
+    let loaded = pool_file::load(fd, &mut pool);
+    libc::close(fd);
+    if !loaded.good {
+        return;
+    }
+    let n = loaded.count;
+    if n <= 262144 {
+        draw_file(tape, &pool[..n]);
+    }
+}
+
+// TAPE, TAPE --pool FILE, or --pool FILE TAPE.
+fn choose(count: usize, a: &[u8], b: &[u8], c: &[u8]) {
+    if count == 2 {
+        if pool_file::is_option(a) {
+            usage();
+            return;
+        }
+        with_trail_pool(a);
+        return;
+    }
+    if count == 4 {
+        if pool_file::is_option(a) {
+            with_pool(c, b);
+            return;
+        }
+        if pool_file::is_option(b) {
+            with_pool(a, c);
+            return;
+        }
+    }
+    usage();
+}
+
 fn main() {
-    tape_pages::sheet::sheet()
+    let mut a = io::buffer();
+    let n = os::arg(1, &mut a);
+    let mut b = io::buffer();
+    let m = os::arg(2, &mut b);
+    let mut c = io::buffer();
+    let k = os::arg(3, &mut c);
+    choose(os::arg_count(), &a[..n], &b[..m], &c[..k]);
 }

@@ -7,7 +7,7 @@ use Rattle.chart.proofs.wave.Tie as tie
 
 returns : tie.Need-returns
 unfolding waveOf
-returns c = rw (c .least .ensures, c .before .lanes-end .ensures .0) refl
+returns c = (rw (c .least .ensures, c .before .lanes-end .ensures .0) refl, let e = c .least .ensures in let h = c .before .lanes-end .ensures .1 in omega arith)
 
 pub wave-spec : {M : Type 1} → statement M
 wave-spec =

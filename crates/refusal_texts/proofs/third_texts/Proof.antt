@@ -1,34 +1,52 @@
 use mathlib.Core.Path.{_≡_, ap}
 use borrow.Author.Tests.{ne-eqb}
 use Rattle.refusal_texts.specs.Texts.{thirdTexts, noText}
-use Rattle.refusal_texts.proofs.Copies.{worded}
+use Rattle.refusal_texts.proofs.Wording.{worded}
 use borrow.Author.Needs.{needs}
 use Rattle.refusal_texts.proofs.third_texts.Statement.{statement}
 use Rattle.refusal_texts.proofs.third_texts.Tie as tie
 
 returns : tie.Need-returns
 unfolding thirdTexts
-returns c = worded (c .before .before .before .before .before .before .before .args .out .now) (ap thirdTexts (c .before .before .before .before .before .match .keys1)) (c .before .before .put .ensures)
+returns c =
+    let s2 = c .before .before in
+    let s5 = s2 .before .before .before in
+    worded _ (ap thirdTexts (s5 .match .keys1)) (s2 .put-bytes .ensures)
 
 returns-2 : tie.Need-returns-2
 unfolding thirdTexts
-returns-2 c = worded (c .before .before .before .before .before .before .before .args .out .now) (ap thirdTexts (c .before .before .before .before .before .match .keys2)) (c .before .before .put2 .ensures)
+returns-2 c =
+    let s2 = c .before .before in
+    let s5 = s2 .before .before .before in
+    worded _ (ap thirdTexts (s5 .match .keys2)) (s2 .put-bytes2 .ensures)
 
 returns-3 : tie.Need-returns-3
 unfolding thirdTexts
-returns-3 c = worded (c .before .before .before .before .before .before .before .args .out .now) (ap thirdTexts (c .before .before .before .before .before .match .keys3)) (c .before .before .put3 .ensures)
+returns-3 c =
+    let s2 = c .before .before in
+    let s5 = s2 .before .before .before in
+    worded _ (ap thirdTexts (s5 .match .keys3)) (s2 .put-bytes3 .ensures)
 
 returns-4 : tie.Need-returns-4
 unfolding thirdTexts
-returns-4 c = worded (c .before .before .before .before .before .before .before .args .out .now) (ap thirdTexts (c .before .before .before .before .before .match .keys4)) (c .before .before .put4 .ensures)
+returns-4 c =
+    let s2 = c .before .before in
+    let s5 = s2 .before .before .before in
+    worded _ (ap thirdTexts (s5 .match .keys4)) (s2 .put-bytes4 .ensures)
 
 returns-5 : tie.Need-returns-5
 unfolding thirdTexts
-returns-5 c = worded (c .before .before .before .before .before .before .before .args .out .now) (ap thirdTexts (c .before .before .before .before .before .match .keys5)) (c .before .before .put5 .ensures)
+returns-5 c =
+    let s2 = c .before .before in
+    let s5 = s2 .before .before .before in
+    worded _ (ap thirdTexts (s5 .match .keys5)) (s2 .put-bytes5 .ensures)
 
 returns-6 : tie.Need-returns-6
 unfolding thirdTexts
-returns-6 c = worded (c .before .before .before .before .before .before .before .args .out .now) (ap thirdTexts (c .before .before .before .before .before .match .keys6)) (c .before .before .put6 .ensures)
+returns-6 c =
+    let s2 = c .before .before in
+    let s5 = s2 .before .before .before in
+    worded _ (ap thirdTexts (s5 .match .keys6)) (s2 .put-bytes6 .ensures)
 
 returns-7 : tie.Need-returns-7
 unfolding thirdTexts
@@ -38,7 +56,7 @@ returns-7 c =
     let s7 = s5 .before .before in
     let r = s5 .match .rest in
     let e : thirdTexts (s7 .args .number) ≡ noText = simp (ne-eqb _ _ (r .1), ne-eqb _ _ (r .0 .1), ne-eqb _ _ (r .0 .0 .1), ne-eqb _ _ (r .0 .0 .0 .1), ne-eqb _ _ (r .0 .0 .0 .0 .1), ne-eqb _ _ (r .0 .0 .0 .0 .0 .1)) in
-    worded (s7 .args .out .now) e (s2 .put7 .ensures)
+    worded _ e (s2 .put-bytes7 .ensures)
 
 pub third-texts-spec : {M : Type 1} → statement M
 third-texts-spec =

@@ -1,0 +1,32 @@
+use mathlib.Core.Path.{_≡_, sym, ap}
+use native.Mathlib.Omega.{arith}
+use borrow.Author.Tests.{ne-eqb}
+use Rattle.tape_sheet.specs.Elements.{insetOf}
+use borrow.Author.Needs.{needs}
+use Rattle.tape_sheet.proofs.inset.Statement.{statement}
+use Rattle.tape_sheet.proofs.inset.Tie as tie
+
+returns : tie.Need-returns
+unfolding insetOf
+returns c = (sym (ap insetOf (c .match .keys1)), omega arith)
+
+returns-2 : tie.Need-returns-2
+unfolding insetOf
+returns-2 c = (sym (ap insetOf (c .match .keys2)), omega arith)
+
+returns-3 : tie.Need-returns-3
+unfolding insetOf
+returns-3 c = (sym (ap insetOf (c .match .keys3)), omega arith)
+
+returns-4 : tie.Need-returns-4
+unfolding insetOf
+returns-4 c =
+    let s1 = c .before in
+    let r = c .match .rest in
+    let e : insetOf (s1 .args .place) ≡ 9 = simp (ne-eqb _ _ (r .1), ne-eqb _ _ (r .0 .1), ne-eqb _ _ (r .0 .0 .1)) in
+    (sym e, omega arith)
+
+pub inset-spec : {M : Type 1} → statement M
+inset-spec =
+    tie.close
+    (tie.spec returns returns-2 returns-3 returns-4)

@@ -1,0 +1,158 @@
+-- The elements of a tape's sheet, as pieces. They run.
+use Prim.Native.Nat.{ℕ, _+_, _-_, _*_, _/_, _%_}
+use mathlib.Core.Bool.{Bool, cond}
+use mathlib.Core.List.{List, [], _∷_, _++_}
+use lib.Dec.{eqb, ltb}
+use Rattle.sequencer.specs.declared.Answer.{Answer}
+use Rattle.listing.specs.Ascii.{ascii}
+use Rattle.listing.specs.Text.{decimal}
+use Rattle.chart.specs.Scale.{xOf, breadthOf, laneOf, lanesEnd, waveOf, heightOf}
+use Rattle.tape_words.specs.Words.{timeText, peakText, refusalText, sumText, callText, answerText}
+
+-- a standing's class in the style: 0 waiting, 1 sounding, 2 finished, 3 let go
+unfoldable pub classText : (place : ℕ) → List ℕ
+classText place = cond (eqb place 0) (ascii "w") (cond (eqb place 1) (ascii "s") (cond (eqb place 2) (ascii "f") (ascii "g")))
+
+-- a standing in words
+unfoldable pub nameText : (place : ℕ) → List ℕ
+nameText place = cond (eqb place 0) (ascii "waiting") (cond (eqb place 1) (ascii "sounding") (cond (eqb place 2) (ascii "finished") (ascii "let go")))
+
+-- how far below the lane's top a standing is drawn, and how high: each has a height of its own, so that it is told in grey too
+unfoldable pub insetOf : (place : ℕ) → ℕ
+insetOf place = cond (eqb place 0) 8 (cond (eqb place 1) 5 (cond (eqb place 2) 7 9))
+
+unfoldable pub thicknessOf : (place : ℕ) → ℕ
+thicknessOf place = cond (eqb place 0) 4 (cond (eqb place 1) 10 (cond (eqb place 2) 6 2))
+
+-- name="n"
+unfoldable pub attribute : (name : List ℕ) → (n : ℕ) → List (List ℕ)
+attribute name n = ascii " " ∷ name ∷ ascii "=\"" ∷ decimal n ∷ ascii "\"" ∷ []
+
+-- a text of a class at a place, opened
+unfoldable pub openText : (class : List ℕ) → (x y : ℕ) → List (List ℕ)
+unfolding attribute
+openText class x y = ascii "<text class=\"" ∷ class ∷ ascii "\"" ∷ (attribute (ascii "x") x ++ (attribute (ascii "y") y ++ (ascii ">" ∷ [])))
+
+-- a box of a class, opened
+unfoldable pub openBox : (class : List ℕ) → (x y width height : ℕ) → List (List ℕ)
+unfolding attribute
+openBox class x y width height =
+    ascii "<rect class=\"" ∷ class ∷ ascii "\"" ∷ (attribute (ascii "x") x ++ (attribute (ascii "y") y ++ (attribute (ascii "width") width
+    ++ (attribute (ascii "height") height ++ (ascii ">" ∷ [])))))
+
+-- seconds as hours, minutes and seconds
+unfoldable pub clockText : (s : ℕ) → List (List ℕ)
+clockText s = decimal (s / 3_600) ∷ ascii ":" ∷ decimal (s / 600 % 6) ∷ decimal (s / 60 % 10) ∷ ascii ":" ∷ decimal (s / 10 % 6) ∷ decimal (s % 10) ∷ []
+
+-- a time of the axis: hours, minutes and seconds where the marks are a second or more apart
+unfoldable pub axisTime : (time step : ℕ) → List (List ℕ)
+unfolding timeText clockText
+axisTime time step = cond (ltb step 1_000_000) (timeText time) (clockText (time / 1_000_000))
+
+-- a line of the axis through a group of lanes, with its time above
+unfoldable pub axisMark : (time total step top height : ℕ) → List (List ℕ)
+unfolding openText axisTime
+axisMark time total step top height =
+    ascii "<path class=\"a\" d=\"M" ∷ decimal (xOf time total) ∷ ascii " " ∷ decimal top ∷ ascii "v" ∷ decimal height ∷ ascii "\"/>"
+    ∷ (openText (ascii "t") (xOf time total + 2) (top - 3) ++ (axisTime time step ++ (ascii "</text>\n" ∷ [])))
+
+-- a clip's standing from a time to another; where no time passes nothing is drawn
+unfoldable pub segment : (total first clip place from until : ℕ) → List (List ℕ)
+unfolding classText attribute nameText timeText insetOf thicknessOf
+segment total first clip place from until =
+    cond (eqb from until) [] (ascii "<rect class=\"" ∷ classText place ∷ ascii "\"" ∷ (attribute (ascii "x") (xOf from total)
+    ++ (attribute (ascii "y") (laneOf (clip - first) + insetOf place) ++ (attribute (ascii "width") (breadthOf from until total)
+    ++ (attribute (ascii "height") (thicknessOf place) ++ (ascii "><title>clip " ∷ decimal clip ∷ ascii ": " ∷ nameText place ∷ ascii " from " ∷ (timeText from
+    ++ (ascii " to " ∷ (timeText until ++ (ascii "</title></rect>\n" ∷ []))))))))))
+
+-- where a push lays its clip
+unfoldable pub entryText : (place : ℕ) → List ℕ
+entryText place = cond (eqb place 1) (ascii ", straight to sounding") (ascii ", waits")
+
+-- a lane's line, its number, and a mark where the clip was laid
+unfoldable pub lane : (total first clip place time : ℕ) → List (List ℕ)
+unfolding openText timeText entryText
+lane total first clip place time =
+    ascii "<path class=\"l\" d=\"M170 " ∷ decimal (laneOf (clip - first) + 10) ∷ ascii "h1400\"/>" ∷ (openText (ascii "n") 162 (laneOf (clip - first) + 14)
+    ++ (decimal clip ∷ ascii "</text><path class=\"p\" d=\"M" ∷ decimal (xOf time total - 6) ∷ ascii " " ∷ decimal (laneOf (clip - first) + 5)
+    ∷ ascii "l6 5l-6 5z\"><title>clip " ∷ decimal clip ∷ ascii " laid at " ∷ (timeText time ++ (entryText place ∷ ascii "</title></path>\n" ∷ []))))
+
+-- a mark of the strip, in one of eight rows, opened
+unfoldable pub openMark : (class : List ℕ) → (total time row : ℕ) → List (List ℕ)
+unfolding openBox openText
+openMark class total time row = ascii "<g>" ∷ (openBox class (xOf time total) (70 + row % 8 * 13) 32 12 ++ (ascii "</rect>" ∷ openText class (xOf time total + 16) (79 + row % 8 * 13)))
+
+-- a refused call, by its number
+unfoldable pub refused : (total row kind clip refusal time : ℕ) → List (List ℕ)
+unfolding openMark callText timeText refusalText
+refused total row kind clip refusal time =
+    openMark (ascii "r") total time row ++ (decimal refusal ∷ ascii "</text><title>" ∷ (callText kind clip ++ (ascii " at " ∷ (timeText time ++ (ascii ": "
+    ∷ (refusalText refusal ++ (ascii "</title></g>\n" ∷ [])))))))
+
+-- an edit, in the strip
+unfoldable pub edited : (total row kind clip : ℕ) → (told : Answer) → (time : ℕ) → List (List ℕ)
+unfolding openMark callText timeText answerText
+edited total row kind clip told time =
+    openMark (ascii "e") total time row ++ (ascii "edit</text><title>" ∷ (callText kind clip ++ (ascii " at " ∷ (timeText time ++ (ascii ": " ∷ (answerText told
+    ++ (ascii "</title></g>\n" ∷ [])))))))
+
+-- an edit, on its clip's lane
+unfoldable pub editedLane : (total first kind clip : ℕ) → (told : Answer) → (time : ℕ) → List (List ℕ)
+unfolding callText timeText answerText
+editedLane total first kind clip told time =
+    ascii "<path class=\"d\" d=\"M" ∷ decimal (xOf time total) ∷ ascii " " ∷ decimal (laneOf (clip - first) + 5) ∷ ascii "l-4 -5h8z\"><title>" ∷ (callText kind clip
+    ++ (ascii " at " ∷ (timeText time ++ (ascii ": " ∷ (answerText told ++ (ascii "</title></path>\n" ∷ []))))))
+
+-- a reset or a rate, in the strip and through the lanes
+unfoldable pub called : (total row lanes kind time : ℕ) → List (List ℕ)
+unfolding openMark callText timeText
+called total row lanes kind time =
+    openMark (ascii "c") total time row ++ (callText kind 0 ++ (ascii "</text><title>" ∷ (callText kind 0 ++ (ascii " at " ∷ (timeText time
+    ++ (ascii "</title></g><path class=\"c\" d=\"M" ∷ decimal (xOf time total) ∷ ascii " 176v" ∷ decimal (lanesEnd lanes - 176) ∷ ascii "\"/>\n" ∷ []))))))
+
+-- a bar about the middle, as high as the peak; none for 0
+unfoldable pub bar : (bits column middle : ℕ) → List (List ℕ)
+bar bits column middle =
+    cond (eqb bits 0) [] (ascii "M" ∷ decimal (170 + column) ∷ ascii " " ∷ decimal (middle - heightOf bits 40) ∷ ascii "v"
+    ∷ decimal (heightOf bits 40 + heightOf bits 40 + 1) ∷ [])
+
+-- a channel's wave up to its bars: its box, its number and its peak
+unfoldable pub wave : (lanes channel most : ℕ) → List (List ℕ)
+unfolding openBox openText peakText
+wave lanes channel most =
+    openBox (ascii "b") 170 (waveOf lanes channel) 1_401 81 ++ (ascii "<title>channel " ∷ decimal (channel + 1) ∷ ascii ": peak " ∷ (peakText most
+    ++ (ascii "</title></rect>" ∷ (openText (ascii "n") 162 (waveOf lanes channel + 38) ++ (ascii "channel " ∷ decimal (channel + 1) ∷ ascii "</text>"
+    ∷ (openText (ascii "n") 162 (waveOf lanes channel + 52) ++ (ascii "peak " ∷ (peakText most ++ (ascii "</text><path class=\"v\" d=\"M170 "
+    ∷ decimal (waveOf lanes channel + 40) ∷ ascii "h1401" ∷ [])))))))))
+
+-- a standing of the key
+unfoldable pub swatch : (place x : ℕ) → List (List ℕ)
+unfolding classText attribute openText nameText
+swatch place x =
+    ascii "<rect class=\"" ∷ classText place ∷ ascii "\"" ∷ (attribute (ascii "x") x ++ (attribute (ascii "y") (40 + insetOf place) ++ (attribute (ascii "width") 40
+    ++ (attribute (ascii "height") (thicknessOf place) ++ (ascii "/>" ∷ (openText (ascii "k") (x + 46) 51 ++ (nameText place ∷ ascii "</text>\n" ∷ [])))))))
+
+-- the page's beginning, up to the tape's name
+unfoldable pub page : (lanes channels : ℕ) → List (List ℕ)
+unfolding attribute
+page lanes channels =
+    ascii "<svg xmlns=\"http://www.w3.org/2000/svg\" width=\"1640\"" ∷ (attribute (ascii "height") (waveOf lanes channels + 60) ++ (ascii " viewBox=\"0 0 1640 "
+    ∷ decimal (waveOf lanes channels + 60) ∷ ascii "\">\n<title>Proof sheet of " ∷ []))
+
+-- how many clips, channels, and how much time
+unfoldable pub measures : (lanes channels total : ℕ) → List (List ℕ)
+unfolding openText timeText axisTime
+measures lanes channels total =
+    openText (ascii "k") 600 26 ++ (decimal lanes ∷ ascii " clips laid, " ∷ decimal channels ∷ ascii " channels, " ∷ (timeText total ++ (ascii " played ("
+    ∷ (axisTime total 1_000_000 ++ (ascii ")</text>\n" ∷ [])))))
+
+-- the sum of the counts, below the waves
+unfoldable pub foot : (lanes channels pushes waiting sounding finished «let_go» : ℕ) → List (List ℕ)
+unfolding openText sumText
+foot lanes channels pushes waiting sounding finished «let_go» =
+    openText (ascii "z") 170 (waveOf lanes channels + 20) ++ (sumText pushes waiting sounding finished «let_go» ++ (ascii "</text>\n" ∷ []))
+
+-- what stops the tape, below the sum; 0 is nothing
+unfoldable pub stopText : (lanes channels stop : ℕ) → List (List ℕ)
+unfolding openText refusalText
+stopText lanes channels stop = cond (eqb stop 0) [] (openText (ascii "z") 170 (waveOf lanes channels + 42) ++ (ascii "the tape stops: " ∷ (refusalText stop ++ (ascii "</text>\n" ∷ []))))

@@ -1,0 +1,478 @@
+// A tape as one SVG page: a lane for each clip, marks for edits and refused calls, the wave of each channel, and the sum. Each function puts an element, piece by piece, into a lent buffer (crate tape_words); where it stands is crate chart.
+ghost use mathlib.Core.Path.{_≡_};
+ghost use Prim.Native.Nat.{_-_, _≤_};
+ghost use Rattle.listing.specs.Pieces.{text, add, addAll};
+ghost use Rattle.tape_sheet.specs.Elements.{classText, nameText, insetOf, thicknessOf, attribute, openText, openBox, clockText, axisTime, axisMark, segment, entryText, lane, openMark, refused, edited, editedLane, called, bar, wave, swatch, page, measures, foot, stopText};
+use listing::pieces::put_bytes;
+use listing::pieces::put_decimal;
+use sequencer::Answer;
+use tape_words::put_answer;
+use tape_words::put_call;
+use tape_words::put_peak;
+use tape_words::put_refusal;
+use tape_words::put_sum;
+use tape_words::put_time;
+
+// a - b, and 0 below.
+fn less(a: u64, b: u64) -> u64
+    ensures { λ r. ⌜ r ≡ a - b ⌝ }
+{
+    if a < b { 0 } else { a - b }
+}
+
+// A standing's class in the style: 0 waiting, 1 sounding, 2 finished, 3 let go.
+fn put_class(place: u64, out: &mut [u8], at: usize) -> usize
+    ensures { λ r. ⌜ text (now (out .exit)) r ≡ add (classText place) (text (now (out .entry)) at) ⌝ }
+{
+    match place {
+        0 => put_bytes(b"w", out, at),
+        1 => put_bytes(b"s", out, at),
+        2 => put_bytes(b"f", out, at),
+        _ => put_bytes(b"g", out, at),
+    }
+}
+
+fn put_name(place: u64, out: &mut [u8], at: usize) -> usize
+    ensures { λ r. ⌜ text (now (out .exit)) r ≡ add (nameText place) (text (now (out .entry)) at) ⌝ }
+{
+    match place {
+        0 => put_bytes(b"waiting", out, at),
+        1 => put_bytes(b"sounding", out, at),
+        2 => put_bytes(b"finished", out, at),
+        _ => put_bytes(b"let go", out, at),
+    }
+}
+
+// How far below the lane's top a standing is drawn, and how high: each has a height of its own, so that it is told in grey too.
+fn inset(place: u64) -> u64
+    ensures { λ r. ⌜ r ≡ insetOf place ⌝ }
+    ensures { λ r. ⌜ r ≤ 9 ⌝ }
+{
+    match place {
+        0 => 8,
+        1 => 5,
+        2 => 7,
+        _ => 9,
+    }
+}
+
+fn thickness(place: u64) -> u64
+    ensures { λ r. ⌜ r ≡ thicknessOf place ⌝ }
+    ensures { λ r. ⌜ r ≤ 10 ⌝ }
+{
+    match place {
+        0 => 4,
+        1 => 10,
+        2 => 6,
+        _ => 2,
+    }
+}
+
+// name="n"
+fn put_attribute(name: &[u8], n: u64, out: &mut [u8], at: usize) -> usize
+    ensures { λ r. ⌜ text (now (out .exit)) r ≡ addAll (attribute (now (name .entry)) n) (text (now (out .entry)) at) ⌝ }
+{
+    let to = put_bytes(b" ", out, at);
+    let to = put_bytes(name, out, to);
+    let to = put_bytes(b"=\"", out, to);
+    let to = put_decimal(n, out, to);
+    put_bytes(b"\"", out, to)
+}
+
+fn put_open_text(class: &[u8], x: u64, y: u64, out: &mut [u8], at: usize) -> usize
+    ensures { λ r. ⌜ text (now (out .exit)) r ≡ addAll (openText (now (class .entry)) x y) (text (now (out .entry)) at) ⌝ }
+{
+    let to = put_bytes(b"<text class=\"", out, at);
+    let to = put_bytes(class, out, to);
+    let to = put_bytes(b"\"", out, to);
+    let to = put_attribute(b"x", x, out, to);
+    let to = put_attribute(b"y", y, out, to);
+    put_bytes(b">", out, to)
+}
+
+fn put_open_box(
+    class: &[u8],
+    x: u64,
+    y: u64,
+    width: u64,
+    height: u64,
+    out: &mut [u8],
+    at: usize,
+) -> usize
+    ensures { λ r. ⌜ text (now (out .exit)) r ≡ addAll (openBox (now (class .entry)) x y width height) (text (now (out .entry)) at) ⌝ }
+{
+    let to = put_bytes(b"<rect class=\"", out, at);
+    let to = put_bytes(class, out, to);
+    let to = put_bytes(b"\"", out, to);
+    let to = put_attribute(b"x", x, out, to);
+    let to = put_attribute(b"y", y, out, to);
+    let to = put_attribute(b"width", width, out, to);
+    let to = put_attribute(b"height", height, out, to);
+    put_bytes(b">", out, to)
+}
+
+fn put_clock(s: u64, out: &mut [u8], at: usize) -> usize
+    ensures { λ r. ⌜ text (now (out .exit)) r ≡ addAll (clockText s) (text (now (out .entry)) at) ⌝ }
+{
+    let to = put_decimal(s / 3600, out, at);
+    let to = put_bytes(b":", out, to);
+    let to = put_decimal(s / 600 % 6, out, to);
+    let to = put_decimal(s / 60 % 10, out, to);
+    let to = put_bytes(b":", out, to);
+    let to = put_decimal(s / 10 % 6, out, to);
+    put_decimal(s % 10, out, to)
+}
+
+// A time of the axis: hours, minutes and seconds where the marks are a second or more apart.
+pub fn put_axis_time(time: u64, step: u64, out: &mut [u8], at: usize) -> usize
+    ensures { λ r. ⌜ text (now (out .exit)) r ≡ addAll (axisTime time step) (text (now (out .entry)) at) ⌝ }
+{
+    if step < 1000000 {
+        return put_time(time, out, at);
+    }
+    put_clock(time / 1000000, out, at)
+}
+
+// A line of the axis through a group of lanes, with its time above.
+pub fn put_axis_mark(
+    time: u64,
+    total: u64,
+    step: u64,
+    top: u64,
+    height: u64,
+    out: &mut [u8],
+    at: usize,
+) -> usize
+    ensures { λ r. ⌜ text (now (out .exit)) r ≡ addAll (axisMark time total step top height) (text (now (out .entry)) at) ⌝ }
+{
+    let x = chart::x(time, total);
+    let above = less(top, 3);
+    let to = put_bytes(b"<path class=\"a\" d=\"M", out, at);
+    let to = put_decimal(x, out, to);
+    let to = put_bytes(b" ", out, to);
+    let to = put_decimal(top, out, to);
+    let to = put_bytes(b"v", out, to);
+    let to = put_decimal(height, out, to);
+    let to = put_bytes(b"\"/>", out, to);
+    let to = put_open_text(b"t", x + 2, above, out, to);
+    let to = put_axis_time(time, step, out, to);
+    put_bytes(b"</text>\n", out, to)
+}
+
+// A clip's standing from a time to another. Where no time passes nothing is drawn.
+pub fn put_segment(
+    total: u64,
+    first: u64,
+    clip: u64,
+    place: u64,
+    from: u64,
+    until: u64,
+    out: &mut [u8],
+    at: usize,
+) -> usize
+    ensures { λ r. ⌜ text (now (out .exit)) r ≡ addAll (segment total first clip place from until) (text (now (out .entry)) at) ⌝ }
+{
+    if from == until {
+        return at;
+    }
+    let i = less(clip, first);
+    let x = chart::x(from, total);
+    let y = chart::lane(i);
+    let inset = inset(place);
+    let width = chart::breadth(from, until, total);
+    let height = thickness(place);
+    let to = put_bytes(b"<rect class=\"", out, at);
+    let to = put_class(place, out, to);
+    let to = put_bytes(b"\"", out, to);
+    let to = put_attribute(b"x", x, out, to);
+    let to = put_attribute(b"y", y + inset, out, to);
+    let to = put_attribute(b"width", width, out, to);
+    let to = put_attribute(b"height", height, out, to);
+    let to = put_bytes(b"><title>clip ", out, to);
+    let to = put_decimal(clip, out, to);
+    let to = put_bytes(b": ", out, to);
+    let to = put_name(place, out, to);
+    let to = put_bytes(b" from ", out, to);
+    let to = put_time(from, out, to);
+    let to = put_bytes(b" to ", out, to);
+    let to = put_time(until, out, to);
+    put_bytes(b"</title></rect>\n", out, to)
+}
+
+fn put_entry(place: u64, out: &mut [u8], at: usize) -> usize
+    ensures { λ r. ⌜ text (now (out .exit)) r ≡ add (entryText place) (text (now (out .entry)) at) ⌝ }
+{
+    if place == 1 {
+        return put_bytes(b", straight to sounding", out, at);
+    }
+    put_bytes(b", waits", out, at)
+}
+
+// A lane's line, its number, and a mark where the clip was laid.
+pub fn put_lane(
+    total: u64,
+    first: u64,
+    clip: u64,
+    place: u64,
+    time: u64,
+    out: &mut [u8],
+    at: usize,
+) -> usize
+    ensures { λ r. ⌜ text (now (out .exit)) r ≡ addAll (lane total first clip place time) (text (now (out .entry)) at) ⌝ }
+{
+    let i = less(clip, first);
+    let y = chart::lane(i);
+    let left = less(chart::x(time, total), 6);
+    let to = put_bytes(b"<path class=\"l\" d=\"M170 ", out, at);
+    let to = put_decimal(y + 10, out, to);
+    let to = put_bytes(b"h1400\"/>", out, to);
+    let to = put_open_text(b"n", 162, y + 14, out, to);
+    let to = put_decimal(clip, out, to);
+    let to = put_bytes(b"</text><path class=\"p\" d=\"M", out, to);
+    let to = put_decimal(left, out, to);
+    let to = put_bytes(b" ", out, to);
+    let to = put_decimal(y + 5, out, to);
+    let to = put_bytes(b"l6 5l-6 5z\"><title>clip ", out, to);
+    let to = put_decimal(clip, out, to);
+    let to = put_bytes(b" laid at ", out, to);
+    let to = put_time(time, out, to);
+    let to = put_entry(place, out, to);
+    put_bytes(b"</title></path>\n", out, to)
+}
+
+fn put_open_mark(class: &[u8], total: u64, time: u64, row: u64, out: &mut [u8], at: usize) -> usize
+    ensures { λ r. ⌜ text (now (out .exit)) r ≡ addAll (openMark (now (class .entry)) total time row) (text (now (out .entry)) at) ⌝ }
+{
+    let x = chart::x(time, total);
+    let to = put_bytes(b"<g>", out, at);
+    let to = put_open_box(class, x, 70 + row % 8 * 13, 32, 12, out, to);
+    let to = put_bytes(b"</rect>", out, to);
+    put_open_text(class, x + 16, 79 + row % 8 * 13, out, to)
+}
+
+// A refused call, by its number.
+pub fn put_refused(
+    total: u64,
+    row: u64,
+    kind: u8,
+    clip: u64,
+    refusal: u64,
+    time: u64,
+    out: &mut [u8],
+    at: usize,
+) -> usize
+    ensures { λ r. ⌜ text (now (out .exit)) r ≡ addAll (refused total row kind clip refusal time) (text (now (out .entry)) at) ⌝ }
+{
+    let to = put_open_mark(b"r", total, time, row, out, at);
+    let to = put_decimal(refusal, out, to);
+    let to = put_bytes(b"</text><title>", out, to);
+    let to = put_call(kind, clip, out, to);
+    let to = put_bytes(b" at ", out, to);
+    let to = put_time(time, out, to);
+    let to = put_bytes(b": ", out, to);
+    let to = put_refusal(refusal, out, to);
+    put_bytes(b"</title></g>\n", out, to)
+}
+
+// An edit, in the strip.
+pub fn put_edited(
+    total: u64,
+    row: u64,
+    kind: u8,
+    clip: u64,
+    told: Answer,
+    time: u64,
+    out: &mut [u8],
+    at: usize,
+) -> usize
+    ensures { λ r. ⌜ text (now (out .exit)) r ≡ addAll (edited total row kind clip told time) (text (now (out .entry)) at) ⌝ }
+{
+    let to = put_open_mark(b"e", total, time, row, out, at);
+    let to = put_bytes(b"edit</text><title>", out, to);
+    let to = put_call(kind, clip, out, to);
+    let to = put_bytes(b" at ", out, to);
+    let to = put_time(time, out, to);
+    let to = put_bytes(b": ", out, to);
+    let to = put_answer(told, out, to);
+    put_bytes(b"</title></g>\n", out, to)
+}
+
+// An edit, on its clip's lane.
+pub fn put_edited_lane(
+    total: u64,
+    first: u64,
+    kind: u8,
+    clip: u64,
+    told: Answer,
+    time: u64,
+    out: &mut [u8],
+    at: usize,
+) -> usize
+    ensures { λ r. ⌜ text (now (out .exit)) r ≡ addAll (editedLane total first kind clip told time) (text (now (out .entry)) at) ⌝ }
+{
+    let i = less(clip, first);
+    let x = chart::x(time, total);
+    let y = chart::lane(i);
+    let to = put_bytes(b"<path class=\"d\" d=\"M", out, at);
+    let to = put_decimal(x, out, to);
+    let to = put_bytes(b" ", out, to);
+    let to = put_decimal(y + 5, out, to);
+    let to = put_bytes(b"l-4 -5h8z\"><title>", out, to);
+    let to = put_call(kind, clip, out, to);
+    let to = put_bytes(b" at ", out, to);
+    let to = put_time(time, out, to);
+    let to = put_bytes(b": ", out, to);
+    let to = put_answer(told, out, to);
+    put_bytes(b"</title></path>\n", out, to)
+}
+
+// A reset or a rate, in the strip and through the lanes.
+pub fn put_called(
+    total: u64,
+    row: u64,
+    lanes: u64,
+    kind: u8,
+    time: u64,
+    out: &mut [u8],
+    at: usize,
+) -> usize
+    ensures { λ r. ⌜ text (now (out .exit)) r ≡ addAll (called total row lanes kind time) (text (now (out .entry)) at) ⌝ }
+{
+    let x = chart::x(time, total);
+    let height = less(chart::lanes_end(lanes), 176);
+    let to = put_open_mark(b"c", total, time, row, out, at);
+    let to = put_call(kind, 0, out, to);
+    let to = put_bytes(b"</text><title>", out, to);
+    let to = put_call(kind, 0, out, to);
+    let to = put_bytes(b" at ", out, to);
+    let to = put_time(time, out, to);
+    let to = put_bytes(b"</title></g><path class=\"c\" d=\"M", out, to);
+    let to = put_decimal(x, out, to);
+    let to = put_bytes(b" 176v", out, to);
+    let to = put_decimal(height, out, to);
+    put_bytes(b"\"/>\n", out, to)
+}
+
+// A bar about the middle, where the peak is above 0.
+pub fn put_bar(bits: u32, column: u32, middle: u64, out: &mut [u8], at: usize) -> usize
+    ensures { λ r. ⌜ text (now (out .exit)) r ≡ addAll (bar bits column middle) (text (now (out .entry)) at) ⌝ }
+{
+    if bits == 0 {
+        return at;
+    }
+    let h = chart::height(bits, 40);
+    let top = less(middle, h);
+    let to = put_bytes(b"M", out, at);
+    let to = put_decimal(170 + column as u64, out, to);
+    let to = put_bytes(b" ", out, to);
+    let to = put_decimal(top, out, to);
+    let to = put_bytes(b"v", out, to);
+    put_decimal(h + h + 1, out, to)
+}
+
+// A channel's wave up to its bars: its box, its number and its peak.
+pub fn put_wave(lanes: u64, channel: u32, most: u32, out: &mut [u8], at: usize) -> usize
+    ensures { λ r. ⌜ text (now (out .exit)) r ≡ addAll (wave lanes channel most) (text (now (out .entry)) at) ⌝ }
+{
+    let y = chart::wave(lanes, channel as u64);
+    let to = put_open_box(b"b", 170, y, 1401, 81, out, at);
+    let to = put_bytes(b"<title>channel ", out, to);
+    let to = put_decimal(channel as u64 + 1, out, to);
+    let to = put_bytes(b": peak ", out, to);
+    let to = put_peak(most, out, to);
+    let to = put_bytes(b"</title></rect>", out, to);
+    let to = put_open_text(b"n", 162, y + 38, out, to);
+    let to = put_bytes(b"channel ", out, to);
+    let to = put_decimal(channel as u64 + 1, out, to);
+    let to = put_bytes(b"</text>", out, to);
+    let to = put_open_text(b"n", 162, y + 52, out, to);
+    let to = put_bytes(b"peak ", out, to);
+    let to = put_peak(most, out, to);
+    let to = put_bytes(b"</text><path class=\"v\" d=\"M170 ", out, to);
+    let to = put_decimal(y + 40, out, to);
+    put_bytes(b"h1401", out, to)
+}
+
+// A standing of the key.
+pub fn put_swatch(place: u64, x: u32, out: &mut [u8], at: usize) -> usize
+    ensures { λ r. ⌜ text (now (out .exit)) r ≡ addAll (swatch place x) (text (now (out .entry)) at) ⌝ }
+{
+    let inset = inset(place);
+    let height = thickness(place);
+    let to = put_bytes(b"<rect class=\"", out, at);
+    let to = put_class(place, out, to);
+    let to = put_bytes(b"\"", out, to);
+    let to = put_attribute(b"x", x as u64, out, to);
+    let to = put_attribute(b"y", 40 + inset, out, to);
+    let to = put_attribute(b"width", 40, out, to);
+    let to = put_attribute(b"height", height, out, to);
+    let to = put_bytes(b"/>", out, to);
+    let to = put_open_text(b"k", x as u64 + 46, 51, out, to);
+    let to = put_name(place, out, to);
+    put_bytes(b"</text>\n", out, to)
+}
+
+// The page's beginning, up to the tape's name.
+pub fn put_page(lanes: u64, channels: u64, out: &mut [u8], at: usize) -> usize
+    ensures { λ r. ⌜ text (now (out .exit)) r ≡ addAll (page lanes channels) (text (now (out .entry)) at) ⌝ }
+{
+    let y = chart::wave(lanes, channels);
+    let to = put_bytes(
+        b"<svg xmlns=\"http://www.w3.org/2000/svg\" width=\"1640\"",
+        out,
+        at,
+    );
+    let to = put_attribute(b"height", y + 60, out, to);
+    let to = put_bytes(b" viewBox=\"0 0 1640 ", out, to);
+    let to = put_decimal(y + 60, out, to);
+    put_bytes(b"\">\n<title>Proof sheet of ", out, to)
+}
+
+// How many clips, channels, and how much time.
+pub fn put_measures(lanes: u64, channels: u64, total: u64, out: &mut [u8], at: usize) -> usize
+    ensures { λ r. ⌜ text (now (out .exit)) r ≡ addAll (measures lanes channels total) (text (now (out .entry)) at) ⌝ }
+{
+    let to = put_open_text(b"k", 600, 26, out, at);
+    let to = put_decimal(lanes, out, to);
+    let to = put_bytes(b" clips laid, ", out, to);
+    let to = put_decimal(channels, out, to);
+    let to = put_bytes(b" channels, ", out, to);
+    let to = put_time(total, out, to);
+    let to = put_bytes(b" played (", out, to);
+    let to = put_axis_time(total, 1000000, out, to);
+    put_bytes(b")</text>\n", out, to)
+}
+
+// The sum of the counts, below the waves.
+pub fn put_foot(
+    lanes: u64,
+    channels: u64,
+    pushes: u64,
+    waiting: u64,
+    sounding: u64,
+    finished: u64,
+    let_go: u64,
+    out: &mut [u8],
+    at: usize,
+) -> usize
+    ensures { λ r. ⌜ text (now (out .exit)) r ≡ addAll (foot lanes channels pushes waiting sounding finished «let_go») (text (now (out .entry)) at) ⌝ }
+{
+    let y = chart::wave(lanes, channels);
+    let to = put_open_text(b"z", 170, y + 20, out, at);
+    let to = put_sum(pushes, waiting, sounding, finished, let_go, out, to);
+    put_bytes(b"</text>\n", out, to)
+}
+
+// What stops the tape, below the sum; 0 is nothing.
+pub fn put_stop(lanes: u64, channels: u64, stop: u64, out: &mut [u8], at: usize) -> usize
+    ensures { λ r. ⌜ text (now (out .exit)) r ≡ addAll (stopText lanes channels stop) (text (now (out .entry)) at) ⌝ }
+{
+    if stop == 0 {
+        return at;
+    }
+    let y = chart::wave(lanes, channels);
+    let to = put_open_text(b"z", 170, y + 42, out, at);
+    let to = put_bytes(b"the tape stops: ", out, to);
+    let to = put_refusal(stop, out, to);
+    put_bytes(b"</text>\n", out, to)
+}

@@ -1,0 +1,46 @@
+use mathlib.Core.Path.{_≡_, ap}
+use borrow.Author.Tests.{ne-eqb}
+use Rattle.listing.specs.Ascii.{ascii}
+use Rattle.tape_words.specs.Joining.{under}
+use Rattle.tape_story.specs.Lines.{becomesText}
+use borrow.Author.Needs.{needs}
+use Rattle.tape_story.proofs.put_becomes.Statement.{statement}
+use Rattle.tape_story.proofs.put_becomes.Tie as tie
+
+returns : tie.Need-returns
+unfolding becomesText
+returns c =
+    let s2 = c .before .before in
+    let s5 = s2 .before .before .before in
+    under _ (ap becomesText (s5 .match .keys1)) (s2 .put-bytes .ensures)
+
+returns-2 : tie.Need-returns-2
+unfolding becomesText
+returns-2 c =
+    let s2 = c .before .before in
+    let s5 = s2 .before .before .before in
+    under _ (ap becomesText (s5 .match .keys2)) (s2 .put-bytes2 .ensures)
+
+returns-3 : tie.Need-returns-3
+unfolding becomesText
+returns-3 c =
+    let s2 = c .before .before in
+    let s5 = s2 .before .before .before in
+    under _ (ap becomesText (s5 .match .keys3)) (s2 .put-bytes3 .ensures)
+
+returns-4 : tie.Need-returns-4
+unfolding becomesText
+returns-4 c =
+    let s2 = c .before .before in
+    let s5 = s2 .before .before .before in
+    let s7 = s5 .before .before in
+    let r = s5 .match .rest in
+    let e : becomesText (s7 .args .place) ≡ ascii " is let go" = simp (ne-eqb _ _ (r .1), ne-eqb _ _ (r .0 .1), ne-eqb _ _ (r .0 .0 .1)) in
+    under _ e (s2 .put-bytes4 .ensures)
+
+pub put-becomes-spec : {M : Type 1} → statement M
+put-becomes-spec =
+    tie.close
+    (tie.spec (λ c. search needs) (λ c κs. search needs) (λ c. search needs) (λ c κs. search needs) (λ c. search needs)
+    (λ c κs. search needs) (λ c. search needs) (λ c κs. search needs) (λ c. search needs) returns (λ c. search needs) returns-2
+    (λ c. search needs) returns-3 (λ c. search needs) returns-4)

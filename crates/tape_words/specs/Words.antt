@@ -1,0 +1,71 @@
+-- Words of the pages about a tape, as pieces: times, peaks, refusals, the sum of the counts, calls and what became of an edit. They run.
+use Prim.Native.Nat.{ℕ, _+_, _/_, _%_}
+use mathlib.Core.Bool.{Bool, cond}
+use mathlib.Core.List.{List, [], _∷_, _++_}
+use lib.Dec.{eqb}
+use Rattle.sequencer.specs.declared.Answer.{Answer}
+use Rattle.sequencer.specs.declared.Answer.the-variants.{Number, Applied, Past, Stored, Done, Rendered, Refused}
+use Rattle.listing.specs.Ascii.{ascii}
+use Rattle.listing.specs.Text.{decimal}
+use Rattle.chart.specs.Scale.{scaledOf}
+use Rattle.refusal_texts.specs.Texts.{textOf}
+
+-- a number of thousandths, with three decimals
+unfoldable pub thousandthsText : ℕ → List (List ℕ)
+thousandthsText n = decimal (n / 1_000) ∷ ascii "." ∷ decimal (n / 100 % 10) ∷ decimal (n / 10 % 10) ∷ decimal (n % 10) ∷ []
+
+-- a time in microseconds, as milliseconds
+unfoldable pub timeText : (micros : ℕ) → List (List ℕ)
+unfolding thousandthsText
+timeText t = thousandthsText t ++ (ascii " ms" ∷ [])
+
+-- a magnitude's bits as a number with three decimals, rounded down; all from 2^23 on is one
+unfoldable pub peakText : (bits : ℕ) → List (List ℕ)
+unfolding thousandthsText
+peakText b = cond (eqb (scaledOf b 1_000) 18_446_744_073_709_551_615) (ascii "8388608 or more" ∷ []) (thousandthsText (scaledOf b 1_000))
+
+-- a refusal, by its number
+unfoldable pub refusalText : ℕ → List (List ℕ)
+refusalText n = ascii "refused " ∷ decimal n ∷ ascii ": " ∷ textOf n ∷ []
+
+-- accepted pushes = waiting + sounding + finished + let go
+abbrev pub equalsText : Bool → List ℕ
+equalsText good = cond good (ascii " accepted pushes = ") (ascii " accepted pushes, NOT ")
+
+unfoldable pub sumText : (pushes waiting sounding finished letGo : ℕ) → List (List ℕ)
+sumText p w s f g =
+    decimal p ∷ equalsText (eqb p (w + s + f + g)) ∷ decimal w ∷ ascii " waiting + " ∷ decimal s ∷ ascii " sounding + " ∷ decimal f ∷ ascii " finished + " ∷ decimal g
+    ∷ ascii " let go" ∷ []
+
+-- ---- calls, by their record's kind
+
+-- pushes, with and without a gain; a rate is all that is left
+unfoldable pub pushText : (kind : ℕ) → List ℕ
+pushText k =
+    cond (eqb k 1) (ascii "push")
+    (cond (eqb k 2) (ascii "push, relative")
+    (cond (eqb k 3) (ascii "push, by duration")
+    (cond (eqb k 10) (ascii "push")
+    (cond (eqb k 11) (ascii "push, relative")
+    (cond (eqb k 12) (ascii "push, by duration") (ascii "rate"))))))
+
+-- an edit is named with the number that it names
+unfoldable pub callText : (kind clip : ℕ) → List (List ℕ)
+unfolding pushText
+callText k clip =
+    cond (eqb k 0) (ascii "creation" ∷ [])
+    (cond (eqb k 4) (ascii "edit of clip " ∷ decimal clip ∷ [])
+    (cond (eqb k 5) (ascii "edit, relative, of clip " ∷ decimal clip ∷ [])
+    (cond (eqb k 6) (ascii "tick" ∷ [])
+    (cond (eqb k 7) (ascii "block" ∷ [])
+    (cond (eqb k 8) (ascii "reset" ∷ []) (pushText k ∷ []))))))
+
+-- what became of an edit: applied, past, stored, or refused; any other call is done
+unfoldable pub answerText : Answer → List (List ℕ)
+answerText Applied = ascii "applied" ∷ []
+answerText Past = ascii "past" ∷ []
+answerText Stored = ascii "stored" ∷ []
+answerText Done = ascii "done" ∷ []
+answerText (Number k) = ascii "done" ∷ []
+answerText (Rendered c) = ascii "done" ∷ []
+answerText (Refused n) = ascii "refused" ∷ []

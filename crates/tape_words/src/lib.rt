@@ -1,0 +1,152 @@
+// Words of the pages about a tape, put piece by piece into a lent buffer (listing, pieces): each function answers the next free place, and a piece that has no room is left out.
+ghost use mathlib.Core.Path.{_≡_};
+ghost use Prim.Native.Nat.{_+_};
+ghost use lib.Dec.{eqb};
+ghost use Rattle.listing.specs.Pieces.{text, add, addAll};
+ghost use Rattle.listing.specs.Text.{decimal};
+ghost use Rattle.tape_words.specs.Words.{thousandthsText, timeText, peakText, refusalText, equalsText, sumText, callText, pushText, answerText};
+use listing::pieces::put_bytes;
+use listing::pieces::put_decimal;
+use sequencer::Answer;
+
+// A number of thousandths, with three decimals.
+pub fn put_thousandths(n: u64, out: &mut [u8], at: usize) -> usize
+    ensures { λ r. ⌜ text (now (out .exit)) r ≡ addAll (thousandthsText n) (text (now (out .entry)) at) ⌝ }
+{
+    let to = put_decimal(n / 1000, out, at);
+    let to = put_bytes(b".", out, to);
+    let to = put_decimal(n / 100 % 10, out, to);
+    let to = put_decimal(n / 10 % 10, out, to);
+    put_decimal(n % 10, out, to)
+}
+
+// A time in microseconds, as milliseconds.
+pub fn put_time(micros: u64, out: &mut [u8], at: usize) -> usize
+    ensures { λ r. ⌜ text (now (out .exit)) r ≡ addAll (timeText micros) (text (now (out .entry)) at) ⌝ }
+{
+    let to = put_thousandths(micros, out, at);
+    put_bytes(b" ms", out, to)
+}
+
+// A magnitude's bits as a number with three decimals.
+pub fn put_peak(bits: u32, out: &mut [u8], at: usize) -> usize
+    ensures { λ r. ⌜ text (now (out .exit)) r ≡ addAll (peakText bits) (text (now (out .entry)) at) ⌝ }
+{
+    let n = chart::scaled(bits, 1000);
+    if n == u64::MAX {
+        return put_bytes(b"8388608 or more", out, at);
+    }
+    put_thousandths(n, out, at)
+}
+
+// A refusal with its text.
+pub fn put_refusal(which: u64, out: &mut [u8], at: usize) -> usize
+    ensures { λ r. ⌜ text (now (out .exit)) r ≡ addAll (refusalText which) (text (now (out .entry)) at) ⌝ }
+{
+    let to = put_bytes(b"refused ", out, at);
+    let to = put_decimal(which, out, to);
+    let to = put_bytes(b": ", out, to);
+    refusal_texts::refusal_text(which, out, to)
+}
+
+// Whether a number is the sum of four.
+fn is_sum(n: u64, a: u64, b: u64, c: u64, d: u64) -> bool
+    ensures { λ r. ⌜ r ≡ eqb n (a + b + c + d) ⌝ }
+{
+    if n < a {
+        return false;
+    }
+    if n - a < b {
+        return false;
+    }
+    if n - a - b < c {
+        return false;
+    }
+    n - a - b - c == d
+}
+
+fn put_equals(good: bool, out: &mut [u8], at: usize) -> usize
+    ensures { λ r. ⌜ text (now (out .exit)) r ≡ add (equalsText good) (text (now (out .entry)) at) ⌝ }
+{
+    if good {
+        return put_bytes(b" accepted pushes = ", out, at);
+    }
+    put_bytes(b" accepted pushes, NOT ", out, at)
+}
+
+// The sum: accepted pushes = waiting + sounding + finished + let go.
+pub fn put_sum(
+    pushes: u64,
+    waiting: u64,
+    sounding: u64,
+    finished: u64,
+    let_go: u64,
+    out: &mut [u8],
+    at: usize,
+) -> usize
+    ensures { λ r. ⌜ text (now (out .exit)) r ≡ addAll (sumText pushes waiting sounding finished «let_go») (text (now (out .entry)) at) ⌝ }
+{
+    let good = is_sum(pushes, waiting, sounding, finished, let_go);
+    let to = put_decimal(pushes, out, at);
+    let to = put_equals(good, out, to);
+    let to = put_decimal(waiting, out, to);
+    let to = put_bytes(b" waiting + ", out, to);
+    let to = put_decimal(sounding, out, to);
+    let to = put_bytes(b" sounding + ", out, to);
+    let to = put_decimal(finished, out, to);
+    let to = put_bytes(b" finished + ", out, to);
+    let to = put_decimal(let_go, out, to);
+    put_bytes(b" let go", out, to)
+}
+
+// The name of a push, by its record's kind.
+fn put_push(kind: u8, out: &mut [u8], at: usize) -> usize
+    ensures { λ r. ⌜ text (now (out .exit)) r ≡ add (pushText kind) (text (now (out .entry)) at) ⌝ }
+{
+    match kind {
+        1 => put_bytes(b"push", out, at),
+        2 => put_bytes(b"push, relative", out, at),
+        3 => put_bytes(b"push, by duration", out, at),
+        10 => put_bytes(b"push", out, at),
+        11 => put_bytes(b"push, relative", out, at),
+        12 => put_bytes(b"push, by duration", out, at),
+        _ => put_bytes(b"rate", out, at),
+    }
+}
+
+fn put_edit(name: &[u8], clip: u64, out: &mut [u8], at: usize) -> usize
+    ensures { λ r. ⌜ text (now (out .exit)) r ≡ add (decimal clip) (add (now (name .entry)) (text (now (out .entry)) at)) ⌝ }
+{
+    let to = put_bytes(name, out, at);
+    put_decimal(clip, out, to)
+}
+
+// A call's name, by its record's kind; an edit's with the number that it names.
+pub fn put_call(kind: u8, clip: u64, out: &mut [u8], at: usize) -> usize
+    ensures { λ r. ⌜ text (now (out .exit)) r ≡ addAll (callText kind clip) (text (now (out .entry)) at) ⌝ }
+{
+    match kind {
+        0 => put_bytes(b"creation", out, at),
+        4 => put_edit(b"edit of clip ", clip, out, at),
+        5 => put_edit(b"edit, relative, of clip ", clip, out, at),
+        6 => put_bytes(b"tick", out, at),
+        7 => put_bytes(b"block", out, at),
+        8 => put_bytes(b"reset", out, at),
+        _ => put_push(kind, out, at),
+    }
+}
+
+// What became of an edit.
+pub fn put_answer(told: Answer, out: &mut [u8], at: usize) -> usize
+    ensures { λ r. ⌜ text (now (out .exit)) r ≡ addAll (answerText told) (text (now (out .entry)) at) ⌝ }
+{
+    match told {
+        Answer::Applied => put_bytes(b"applied", out, at),
+        Answer::Past => put_bytes(b"past", out, at),
+        Answer::Stored => put_bytes(b"stored", out, at),
+        Answer::Done => put_bytes(b"done", out, at),
+        Answer::Number(_) => put_bytes(b"done", out, at),
+        Answer::Rendered(_) => put_bytes(b"done", out, at),
+        Answer::Refused(_) => put_bytes(b"refused", out, at),
+    }
+}
