@@ -1,6 +1,7 @@
 pub mod Search
 pub mod Index
 pub mod Edits
+pub mod Rounds
 pub mod Holds
 pub mod Numbered
 pub mod Sounding

@@ -7,7 +7,7 @@ use Rattle.event.specs.declared.Event.{Event}
 use Rattle.event.specs.declared.ReplayMode.{ReplayMode}
 use Rattle.event.specs.declared.ReplayMode.the-variants.{All, None}
 use Rattle.event.specs.Events.{newEvent, earlier, editedBy}
-use Rattle.floats.specs.Arithmetic.{_+ᵈ_, _-ᵈ_, _×ᵈ_, _<ᶠ_, halfᶠ, whole}
+use Rattle.floats.specs.Arithmetic.{_+ᵈ_, _-ᵈ_, _×ᵈ_, _÷ᵈ_, _<ᶠ_, zeroᶠ, halfᶠ, oneᶠ, whole}
 use Rattle.lists.specs.declared.EditMap.{EditMap}
 use Rattle.lists.specs.declared.FoundEdit.{FoundEdit}
 use Rattle.lists.specs.declared.FoundEdit.the-variants.{Stored, Missing}
@@ -21,7 +21,7 @@ use Rattle.plans.specs.declared.Clock.{Clock}
 use Rattle.plans.specs.declared.Step.{Step}
 use Rattle.plans.specs.declared.Taken.{Taken}
 use Rattle.plans.specs.declared.Plan.{Plan}
-use Rattle.plans.specs.declared.Plan.the-variants.{Answer, Sound, Wait, Render, Full, Amend, Clear, Rewind, Rate, Create}
+use Rattle.plans.specs.declared.Plan.the-variants.{Answer, Sound, Wait, Render, Full, Amend, Clear, Requeue, Create}
 
 -- ---- a push
 
@@ -81,13 +81,16 @@ editPlan p until =
     let no = editLimits (p .«end_time») (p .«fade_out») in
     cond (eqb no 0) (Amend (p .id) (record { «end_time» = until; «fade_out» = p .«fade_out» })) (Answer no)
 
-abbrev pub resetPlan : ReplayMode → Plan
-resetPlan All = Rewind
-resetPlan None = Clear
+abbrev pub resetPlan : ReplayMode → Clock → Plan
+resetPlan All c = Requeue (record { rewinds = true; time = zeroᶠ; rate = c .rate; duration = c .duration })
+resetPlan None c = Clear
 
 -- the rate that the engine has changes nothing
 unfoldable pub ratePlan : (rate : Float) → Clock → Plan
-ratePlan r c = cond (eqb (rateRefusal r) 0) (cond (eq (c .rate) r) (Answer 0) (Rate r)) (Answer (rateRefusal r))
+ratePlan r c =
+    cond (eqb (rateRefusal r) 0)
+    (cond (eq (c .rate) r) (Answer 0) (Requeue (record { rewinds = false; time = c .time; rate = r; duration = oneᶠ ÷ᵈ r })))
+    (Answer (rateRefusal r))
 
 -- ---- a record
 
@@ -101,7 +104,7 @@ planOf (Call.Process n) c room = blockPlan n c room
 planOf (Call.Create k m n) c room = Create
 planOf (Call.Edit p) c room = editPlan p (p .«end_time»)
 planOf (Call.EditRelative p) c room = editPlan p (c .time +ᵈ p .«end_time»)
-planOf Call.Reset c room = resetPlan (c .mode)
+planOf Call.Reset c room = resetPlan (c .mode) c
 planOf (Call.SetSampleRate r) c room = ratePlan r c
 
 -- ---- the beginning of a tick or block
@@ -131,6 +134,11 @@ lesserChild c n left right = cond (ltb (c + 1) n && earlier right left) (c + 1) 
 -- a corrupt count holds nothing
 abbrev pub isWithin : (i n : ℕ) → Bool
 isWithin i n = ltb i n && leb n 256
+
+-- ---- everything waits again
+
+abbrev pub rewoundPlaces : (rewinds : Bool) → (waiting : ℕ) → ℕ
+rewoundPlaces b n = cond b (min n 256) 0
 
 -- ---- a reset in mode None
 

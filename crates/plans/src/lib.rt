@@ -3,7 +3,7 @@ ghost use mathlib.Core.Path.{_≡_};
 ghost use Prim.Native.Nat.{_≤_};
 ghost use lib.ListN.{getD, set};
 ghost use Rattle.floats.specs.Arithmetic.{_+ˢ_, zeroᶠ, -∞};
-ghost use Rattle.plans.specs.Plans.{pushPlan, releasesIn, stepOf, stepPlan, tickPlan, blockPlan, editPlan, resetPlan, ratePlan, planOf, letGoAfter, pastAfter, startsBefore, takenFrom, lesserChild, isWithin, allGone};
+ghost use Rattle.plans.specs.Plans.{pushPlan, releasesIn, stepOf, stepPlan, tickPlan, blockPlan, editPlan, resetPlan, ratePlan, planOf, letGoAfter, pastAfter, startsBefore, takenFrom, lesserChild, isWithin, rewoundPlaces, allGone};
 ghost use Rattle.plans.specs.Sounding.{soundedEvent, soundedRow, writtenTo};
 use event::Edit;
 use event::Event;
@@ -51,8 +51,16 @@ pub struct Step {
     pub duration: f64,
 }
 
+// Everything waits again, at its source's beginning if `rewinds`: a reset in mode All, or another rate. The clock, the rate and a sample's duration as they are then.
+pub struct Requeue {
+    pub rewinds: bool,
+    pub time: f64,
+    pub rate: f64,
+    pub duration: f64,
+}
+
 // A call that leaves the engine as it is, with its refusal or 0; a push to the sounding list; a push to the heap; a tick or block; one whose samples do not fit; an edit with its end as it is to be;
-// a reset in mode None; one in mode All; another rate; and a creation.
+// a reset in mode None; one in mode All, or another rate; and a creation.
 pub enum Plan {
     Answer(u64),
     Sound(Event),
@@ -61,8 +69,7 @@ pub enum Plan {
     Full,
     Amend(EventId, Edit),
     Clear,
-    Rewind,
-    Rate(f64),
+    Requeue(Requeue),
     Create,
 }
 
@@ -190,11 +197,16 @@ fn edit_plan(p: EditRecord, until: f64) -> Plan
     )
 }
 
-fn reset_plan(mode: ReplayMode) -> Plan
-    ensures { λ r. ⌜ r ≡ resetPlan mode ⌝ }
+fn reset_plan(mode: ReplayMode, clock: Clock) -> Plan
+    ensures { λ r. ⌜ r ≡ resetPlan mode clock ⌝ }
 {
     match mode {
-        ReplayMode::All => Plan::Rewind,
+        ReplayMode::All => Plan::Requeue(Requeue {
+            rewinds: true,
+            time: 0.0,
+            rate: clock.rate,
+            duration: clock.duration,
+        }),
         ReplayMode::None => Plan::Clear,
     }
 }
@@ -210,7 +222,12 @@ fn rate_plan(rate: f64, clock: Clock) -> Plan
     if clock.rate == rate {
         return Plan::Answer(0);
     }
-    Plan::Rate(rate)
+    Plan::Requeue(Requeue {
+        rewinds: false,
+        time: clock.time,
+        rate,
+        duration: 1.0 / rate,
+    })
 }
 
 // `room` is how many bytes of the output are free.
@@ -247,7 +264,7 @@ pub fn plan_of(call: Call, clock: Clock, room: usize) -> Plan
         Call::EditRelative(p) => edit_plan(p, clock.time + p.end_time),
         Call::Reset => {
             let mode = clock.mode;
-            reset_plan(mode)
+            reset_plan(mode, clock)
         }
         Call::SetSampleRate(rate) => rate_plan(rate, clock),
     }
@@ -325,6 +342,15 @@ pub fn within(i: usize, n: usize) -> bool
         return false;
     }
     i < n
+}
+
+// ---- everything waits again
+
+// How many of the waiting are rewound.
+pub fn rewound(rewinds: bool, waiting: usize) -> usize
+    ensures { λ r. ⌜ r ≡ rewoundPlaces rewinds waiting ⌝ }
+{
+    if rewinds { least(waiting, 256) } else { 0 }
 }
 
 // ---- a reset in mode None

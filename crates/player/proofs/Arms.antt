@@ -21,28 +21,26 @@ use Rattle.event.specs.Sources.{advanced, advancedBy, source-stays}
 use Rattle.floats.specs.Arithmetic.{_<ᶠ_, zeroᶠ, -∞}
 use Rattle.ledger.specs.TickSamples.{afterTick}
 use Rattle.ledger.specs.BlockSamples.{firstPlace, endPlace, afterBlock}
-use Rattle.lists.specs.declared.ActiveMap.{ActiveMap}
 use Rattle.lists.specs.declared.EditMap.{EditMap}
-use Rattle.lists.specs.declared.Found.{Found}
 use Rattle.lists.specs.declared.Found.the-variants.{At, Nothing}
-use Rattle.lists.specs.Search.{seek}
-use Rattle.lists.specs.Index.{foundId, isId, noId}
+use Rattle.lists.specs.Index.{foundId}
 use Rattle.lists.specs.declared.FoundEdit.{FoundEdit}
 use Rattle.lists.specs.declared.FoundEdit.the-variants.{Stored, Missing}
 use Rattle.lists.specs.Edits.{foundEdit, stored}
 use Rattle.ready.specs.Sift.{child}
 use Rattle.sequencer.specs.declared.Sequencer.{Sequencer}
-use Rattle.sequencer.specs.Parts.{withReady, withActive, withPast, withEdits, withTimes, withNext, withLetGo, withSounding}
-use Rattle.sequencer.specs.Moves.{pushedReady, pushedActive, readyToActive, activeToPast}
+use Rattle.sequencer.specs.Parts.{withReady, withActive, withPast, withEdits, withTimes, withRate, withNext, withLetGo, withSounding}
+use Rattle.sequencer.specs.Moves.{pushedReady, pushedActive, readyToActive, activeToPast, allToReady}
 use Rattle.sequencer.specs.Edits.{indexOf, changedBy, changed}
-use Rattle.sequencer.specs.Resets.{emptiedLists, resetBy, resets}
+use Rattle.sequencer.specs.Resets.{rewinds, emptiedLists, resetBy, resets}
 use Rattle.sequencer.specs.Turns.{Activating, activated-none, activated-beyond, activated-late, Taking, taking-missing, taking-stored, Finishing, finished-end, finished-beyond}
 use Rattle.sequencer.specs.Steady.{Passing, passing-on}
 use Rattle.plans.specs.declared.Step.{Step}
+use Rattle.plans.specs.declared.Requeue.{Requeue}
 use Rattle.plans.specs.declared.Taken.{Taken}
-use Rattle.plans.specs.Plans.{startsBefore, takenBy, takenFrom, lesserChild, isWithin, allGone}
+use Rattle.plans.specs.Plans.{startsBefore, takenBy, takenFrom, lesserChild, isWithin, rewoundPlaces, allGone}
 use Rattle.plans.specs.Sounding.{spanIn, soundedEvent}
-use Rattle.player.proofs.Meaning.{begunIn, advancedIn}
+use Rattle.player.proofs.Meaning.{begunIn, advancedIn, afterRequeue, requeuedIn}
 
 -- ---- pushes
 
@@ -127,28 +125,6 @@ within-false limit s i r h w = go (decLt i (s .«active_len»)) (decLt 256 (s .�
 
 -- ---- edits, and a reset in mode None
 
--- what is found stands in the array
-abbrev Inside : Found → Type 0
-Inside (At i) = i < 256
-Inside Nothing = Unit {0}
-
-seek-inside : (k : EventId) (f : ℕ) (xs : List EventId) (i : ℕ) → i + f ≤ 256 → Inside (seek noId (isId k) f xs i)
-unfolding seek
-seek-inside k zero xs i h = tt
-seek-inside k (suc f) xs i h = go (isId k (getD xs i noId)) (seek-inside k f xs (suc i) (omega arith))
-  where
-    go : (b : Bool) → Inside (seek noId (isId k) f xs (suc i)) → Inside (cond b (At i) (seek noId (isId k) f xs (suc i)))
-    go true r = omega arith
-    go false r = r
-
-pub found-inside : (a : ActiveMap) (k : EventId) (i : ℕ) → foundId a k ≡ At i → i < 256
-unfolding foundId
-found-inside a k i h = subst Inside h (go (leb (a .len) 256) (leb-true (a .len) 256))
-  where
-    go : (b : Bool) → (b ≡ true → a .len ≤ 256) → Inside (cond b (seek noId (isId k) (a .len) (a .ids) 0) Nothing)
-    go true l = seek-inside k (a .len) (a .ids) 0 (omega (arith, l refl))
-    go false l = tt
-
 module _ (s : Sequencer) (k : EventId) (d : Edit) where
   pub amended-active : {i : ℕ} {e : Event} → foundId (indexOf s) k ≡ At i → e ≡ editedBy d (getD (s .active) i blank) → withSounding s (set (s .active) i e) ≡ changed s k d .sequencer
   unfolding changed changedBy
@@ -166,6 +142,19 @@ pub cleared : (s : Sequencer) {l : ℕ} {θ : Float} → l ≡ allGone (s .«let
     → withTimes (emptiedLists s l) zeroᶠ θ ≡ resets s
 unfolding resetBy
 cleared s p q m = (λ i. withTimes (emptiedLists s (p i)) zeroᶠ (q i)) ∙ sym (ap (resetBy s) m)
+
+-- ---- everything waits again
+
+pub rewound-few : (b : Bool) (m : ℕ) {n : ℕ} → n ≡ rewoundPlaces b m → n ≤ 256
+rewound-few true m h = omega arith
+rewound-few false m h = omega arith
+
+pub requeued : (q : Requeue) (s : Sequencer) {a t : Sequencer} {n : ℕ} {θ : Float} → a ≡ allToReady s → n ≡ rewoundPlaces (q .rewinds) (a .«ready_len») → t ≡ withReady a (rewinds n (a .ready) 0) (a .«ready_len») → θ ≡ -∞
+    → withRate (withTimes t (q .time) θ) (q .rate) (q .duration) ≡ requeuedIn q s
+requeued q s {a} {t} p k g h =
+    (λ i. withRate (withTimes (g i) (q .time) (h i)) (q .rate) (q .duration))
+    ∙ ap (λ (m : ℕ). withRate (withTimes (withReady a (rewinds m (a .ready) 0) (a .«ready_len»)) (q .time) -∞) (q .rate) (q .duration)) k
+    ∙ ap (λ (y : Sequencer). afterRequeue q y (q .time) (q .rate) (q .duration)) p
 
 -- ---- a tick or block
 

@@ -1,7 +1,7 @@
 -- What a plan means: the fields that its arm leaves are those of the record's step (crate apply). Assumes nothing.
 use mathlib.Core.Bool.{Bool, true, false, not, _&&_, _||_, cond, false≢true}
 use mathlib.Core.List.{List, [], _∷_, _++_, append-assoc}
-use mathlib.Core.Path.{_≡_, refl, sym, ap, _∙_, subst}
+use mathlib.Core.Path.{_≡_, refl, sym, ap, ap₂, _∙_, subst}
 use Prim.Native.Nat.{ℕ, zero, suc, _+_, _*_, _/_, _%_, _^_, _≤_, _<_, min}
 use native.Mathlib.Omega.{arith}
 use borrow.Author.Tests.{ltb-true, ltb-false, leb-true, leb-false, eqb-true, le-ltb}
@@ -17,7 +17,7 @@ use Rattle.event.specs.declared.EventId.{EventId}
 use Rattle.event.specs.declared.ReplayMode.{ReplayMode}
 use Rattle.event.specs.declared.ReplayMode.the-variants.{All, None}
 use Rattle.event.specs.Events.{blank, newEvent}
-use Rattle.floats.specs.Arithmetic.{_+ᵈ_, _-ᵈ_, _×ᵈ_, _<ᶠ_, _≤ᶠ_, _+ˢ_, zeroᶠ, oneᶠ, halfᶠ, whole}
+use Rattle.floats.specs.Arithmetic.{_+ᵈ_, _-ᵈ_, _×ᵈ_, _<ᶠ_, _≤ᶠ_, _÷ᵈ_, _+ˢ_, zeroᶠ, oneᶠ, halfᶠ, -∞, whole}
 use Rattle.ledger.specs.Calls.{absolute, relative, byDuration}
 use Rattle.ledger.specs.Refusals.{within, withinEnd, finiteSource, statedEnd, editEnd}
 use Rattle.ledger.specs.Steps.{pushedTime}
@@ -32,10 +32,10 @@ use Rattle.lists.specs.Edits.{placed, foundAt, foundEdit, storedAt, stored}
 use Rattle.refusals.specs.Refusals.{pushRefusal, roomless, noRoom, editLimits, editRefusal, tickRefusal, processRefusal, rateRefusal}
 use Rattle.sequencer.specs.declared.Sequencer.{Sequencer}
 use Rattle.sequencer.specs.declared.Outcome.{Outcome}
-use Rattle.sequencer.specs.Parts.{withPast, withEdits, withTimes, withNext, withLetGo, withSounding}
-use Rattle.sequencer.specs.Moves.{pushedReady, pushedActive, pushedEvent, readyToActive, activeToPast, releasedPast, advanced}
+use Rattle.sequencer.specs.Parts.{withReady, withActive, withPast, withEdits, withTimes, withRate, withNext, withLetGo, withSounding}
+use Rattle.sequencer.specs.Moves.{pushedReady, pushedActive, pushedEvent, readyToActive, activeToPast, releasedPast, advanced, heldAt, toReady, allToReady}
 use Rattle.sequencer.specs.Edits.{indexOf, changedBy, changed, amended, edits}
-use Rattle.sequencer.specs.Resets.{resets, reRated, rates}
+use Rattle.sequencer.specs.Resets.{rewinds, rewoundReady, resetBy, resets, reRated, rates}
 use Rattle.sequencer.specs.Answers.{accepts, renders, refuses}
 use Rattle.sequencer.specs.Pushes.{admitted, pushesTo, pushes}
 use Rattle.sequencer.specs.Rendering.{Passed, passes, tickEnd, addTick, tickPass, renderedTick, renderedTickOut, ticks, tickOuts, blockEnd, spanOf, blockPass, renderedBlock, renderedPlaces, renderedBlockOut, blocks, blockOuts}
@@ -48,8 +48,10 @@ use Rattle.apply.specs.Applying.{refusalOf, silent, silentOf, soundingOf, lentT
 use Rattle.plans.specs.declared.Clock.{Clock}
 use Rattle.plans.specs.declared.Step.{Step}
 use Rattle.plans.specs.declared.Plan.{Plan}
-use Rattle.plans.specs.declared.Plan.the-variants.{Answer, Sound, Wait, Render, Full, Amend, Clear, Rewind, Rate, Create}
-use Rattle.plans.specs.Plans.{entersBy, pushPlan, releasesIn, stepOf, stepPlan, tickPlan, blockPlan, editPlan, resetPlan, ratePlan, planOf, letGoAfter, pastAfter}
+use Rattle.plans.specs.declared.Plan.the-variants.{Answer, Sound, Wait, Render, Full, Amend, Clear, Create}
+use Rattle.plans.specs.declared.Requeue.{Requeue}
+use Rattle.plans.specs.declared.Plan.the-variants as Plan
+use Rattle.plans.specs.Plans.{entersBy, pushPlan, releasesIn, stepOf, stepPlan, tickPlan, blockPlan, editPlan, resetPlan, ratePlan, planOf, letGoAfter, pastAfter, rewoundPlaces}
 use Rattle.plans.specs.Sounding.{soundedEvent, soundedRow, writtenTick, writtenBlock, writtenTo, length-overlay}
 use Rattle.player.specs.Records.{soundOf}
 use Rattle.player.proofs.Rolling.{sound-length}
@@ -93,6 +95,15 @@ rowIn pool b s = passIn pool b (advancedIn b s) .sum
 abbrev pub heardIn : (pool : List Float) → Step → Sequencer → Applied
 heardIn pool b s = record { sequencer = renderedIn pool b s; refusal = 0; channels = b .channels; each = b .size; stride = b .stride }
 
+-- ---- the engine once everything waits again
+
+-- a has everything in its heap
+abbrev pub afterRequeue : Requeue → (a : Sequencer) → (t r d : Float) → Sequencer
+afterRequeue q a t r d = withRate (withTimes (withReady a (rewinds (rewoundPlaces (q .rewinds) (a .«ready_len»)) (a .ready) 0) (a .«ready_len»)) t -∞) r d
+
+abbrev pub requeuedIn : Requeue → Sequencer → Sequencer
+requeuedIn q s = afterRequeue q (allToReady s) (q .time) (q .rate) (q .duration)
+
 -- ---- what each plan says of its record: a is what the call gives on s, and o what it makes of the output x
 
 pub record Renders (pool : List Float) (s : Sequencer) (a : Applied) (x o : List Float) (room : ℕ) (b : Step) : Type 0 where
@@ -113,8 +124,7 @@ Means pool s a x o room (Render b) = Renders pool s a x o room b
 Means pool s a x o room Full = (a .refusal ≡ 1 → ⊥) × (room < length (soundOf a o))
 Means pool s a x o room (Amend k d) = (a ≡ silent (changed s k d .sequencer) (a .refusal)) × (o ≡ x) × (a .refusal ≡ 1 → ⊥)
 Means pool s a x o room Clear = (a ≡ silent (resets s) 0) × (o ≡ x) × (s .mode ≡ None)
-Means pool s a x o room Rewind = (a ≡ silent (resets s) 0) × (o ≡ x)
-Means pool s a x o room (Rate r) = (a ≡ silent (reRated s r) 0) × (o ≡ x)
+Means pool s a x o room (Plan.Requeue q) = (a ≡ silent (requeuedIn q s) 0) × (o ≡ x)
 Means pool s a x o room Create = (a ≡ silent (a .sequencer) (a .refusal)) × (o ≡ x)
 
 -- ---- refusals
@@ -263,17 +273,46 @@ rate-never : (r : Float) → rateRefusal r ≡ 1 → ⊥
 unfolding rateRefusal
 rate-never r = never (not (oneᶠ ≤ᶠ r && r ≤ᶠ whole 1_000_000)) 2 0 (λ z. omega arith) (λ z. omega arith)
 
+-- events that go to the heap leave the other fields alone
+to-ready-same : (f p i : ℕ) (s : Sequencer) → toReady f p i s ≡ withReady s (toReady f p i s .ready) (toReady f p i s .«ready_len»)
+unfolding toReady pushedReady
+to-ready-same zero p i s = refl
+to-ready-same (suc f) p i s = to-ready-same f p (suc i) (pushedReady s (heldAt p s i))
+
+module _ {A : Type 0} (field : Sequencer → A) (alone : (s : Sequencer) (xs : List Event) (n : ℕ) → field (withReady s xs n) ≡ field s) (other : (s : Sequencer) → field (withActive (withPast s (s .past) 0) (s .active) (s .«active_map») 0) ≡ field s) where
+  all-to-ready-same : (s : Sequencer) → field (allToReady s) ≡ field s
+  unfolding allToReady
+  all-to-ready-same s =
+      let p = min (s .«past_len») 256 in
+      let f = p + min (s .«active_len») 256 in
+      other (toReady f p 0 s) ∙ ap field (to-ready-same f p 0 s) ∙ alone s (toReady f p 0 s .ready) (toReady f p 0 s .«ready_len»)
+
 rate-means : (pool : List Float) (s : Sequencer) (r : Float) (x : List Float) (room : ℕ) → Means pool s (silentOf (rates s r)) x x room (ratePlan r (clockOf s))
-unfolding rates ratePlan
+unfolding rates ratePlan reRated rewinds
 rate-means pool s r x room = go (eqb (rateRefusal r) 0) (eq (s .«sample_rate») r) refl
   where
-    go : (a b : Bool) → eq (s .«sample_rate») r ≡ b → Means pool s (silentOf (cond a (accepts (reRated s r)) (refuses s (rateRefusal r)))) x x room (cond a (cond b (Answer 0) (Rate r)) (Answer (rateRefusal r)))
+    other : Requeue
+    other = record { rewinds = false; time = s .time; rate = r; duration = oneᶠ ÷ᵈ r }
+
+    again : withRate (withTimes (allToReady s) (allToReady s .time) -∞) r (oneᶠ ÷ᵈ r) ≡ requeuedIn other s
+    again = ap (λ (t : Float). withRate (withTimes (allToReady s) t -∞) r (oneᶠ ÷ᵈ r)) (all-to-ready-same (λ (y : Sequencer). y .time) (λ y xs n. refl) (λ y. refl) s)
+
+    go : (a b : Bool) → eq (s .«sample_rate») r ≡ b → Means pool s (silentOf (cond a (accepts (reRated s r)) (refuses s (rateRefusal r)))) x x room (cond a (cond b (Answer 0) (Plan.Requeue other)) (Answer (rateRefusal r)))
     go true true q = (ap (λ (t : Sequencer). silent t 0) (same-rate s r q), refl, λ z. omega arith)
-    go true false q = (refl, refl)
+    go true false q = (ap (λ (t : Sequencer). silent t 0) (rw q again), refl)
     go false b q = (refl, refl, rate-never r)
 
-reset-means : (pool : List Float) (s : Sequencer) (x : List Float) (room : ℕ) (m : ReplayMode) → s .mode ≡ m → Means pool s (silent (resets s) 0) x x room (resetPlan m)
-reset-means pool s x room All h = (refl, refl)
+reset-means : (pool : List Float) (s : Sequencer) (x : List Float) (room : ℕ) (m : ReplayMode) → s .mode ≡ m → Means pool s (silent (resets s) 0) x x room (resetPlan m (clockOf s))
+unfolding resetBy rewoundReady
+reset-means pool s x room All h = (ap (λ (t : Sequencer). silent t 0) (ap (resetBy s) h ∙ again), refl)
+  where
+    start : Requeue
+    start = record { rewinds = true; time = zeroᶠ; rate = s .«sample_rate»; duration = s .«sample_duration» }
+
+    again : resetBy s All ≡ requeuedIn start s
+    again = ap₂ (afterRequeue start (allToReady s) zeroᶠ)
+        (all-to-ready-same (λ (y : Sequencer). y .«sample_rate») (λ y xs n. refl) (λ y. refl) s)
+        (all-to-ready-same (λ (y : Sequencer). y .«sample_duration») (λ y xs n. refl) (λ y. refl) s)
 reset-means pool s x room None h = (refl, refl, h)
 
 -- ---- a tick or block

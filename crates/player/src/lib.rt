@@ -194,13 +194,49 @@ fn run(tape: &[u8], pool: &[f32], samples: &mut [f32], out: &mut [u8]) -> usize
                 s.time = 0.0;
                 s.active_threshold = plans::lowest();
             }
-            // Reset: "All sends everything to W and rewinds sources, E remaining".
-            Plan::Rewind => {
-                s = s.reset();
-            }
-            // Rate: "if different, r and d change, everything goes to W, θ = -infinity".
-            Plan::Rate(rate) => {
-                s = s.change_rate(rate);
+            // Reset: "All sends everything to W and rewinds sources, E remaining"; rate: "if different, r and d change, everything goes to W, θ = -infinity". F, then S, each up the heap as in a push.
+            Plan::Requeue(after) => {
+                let past = least(s.past_len, 256);
+                let held = past + least(s.active_len, 256);
+                let mut k = 0;
+                while k < held {
+                    let mut event = s.past[0];
+                    if k < past {
+                        event = s.past[k];
+                    } else {
+                        event = s.active[k - past];
+                    }
+                    k = k + 1;
+                    let n = s.ready_len;
+                    if n < 256 {
+                        let mut j = n;
+                        while 0 < j {
+                            let p = (j - 1) / 2;
+                            let parent = s.ready[p];
+                            if !event.precedes(parent) {
+                                break;
+                            }
+                            s.ready[j] = parent;
+                            j = p;
+                        }
+                        s.ready[j] = event;
+                        s.ready_len = n + 1;
+                    }
+                }
+                s.past_len = 0;
+                s.active_len = 0;
+                let waiting = plans::rewound(after.rewinds, s.ready_len);
+                let mut k = 0;
+                while k < waiting {
+                    let event = s.ready[k];
+                    let event = event.rewind();
+                    s.ready[k] = event;
+                    k = k + 1;
+                }
+                s.time = after.time;
+                s.sample_rate = after.rate;
+                s.sample_duration = after.duration;
+                s.active_threshold = plans::lowest();
             }
             // A creation; "refusals 1, 14, 15 stop it".
             Plan::Create => {

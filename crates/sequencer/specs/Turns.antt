@@ -2,7 +2,7 @@
 use mathlib.Core.Bool.{Bool, true, false, _&&_, cond, and-false}
 use mathlib.Core.List.{List}
 use mathlib.Core.Path.{_≡_, refl, sym, ap, ap₂, _∙_, subst}
-use Prim.Native.Nat.{ℕ, zero, suc, _+_, _-_, _≤_, _<_}
+use Prim.Native.Nat.{ℕ, zero, suc, _+_, _-_, _≤_, _<_, min}
 use native.Mathlib.Omega.{arith}
 use native.Mathlib.Numerals.{add-one}
 use borrow.Author.Tests.{lt-ltb, le-ltb, le-leb, lt-leb}
@@ -12,7 +12,7 @@ use lib.ListN.{getD, set}
 use Rattle.event.specs.declared.Event.{Event}
 use Rattle.event.specs.declared.EventId.{EventId}
 use Rattle.event.specs.declared.Edit.{Edit}
-use Rattle.event.specs.Events.{blank, editedBy}
+use Rattle.event.specs.Events.{blank, editedBy, rewound}
 use Rattle.ready.specs.Waiting.{popped}
 use Rattle.lists.specs.Search.{seek}
 use Rattle.lists.specs.Index.{noId}
@@ -22,8 +22,9 @@ use Rattle.lists.specs.declared.FoundEdit.{FoundEdit}
 use Rattle.lists.specs.declared.FoundEdit.the-variants.{Stored, Missing}
 use Rattle.lists.specs.Edits.{noEdit, isEdit, placed, foundAt, foundEdit, removed}
 use Rattle.sequencer.specs.declared.Sequencer.{Sequencer}
-use Rattle.sequencer.specs.Parts.{withActive, withPast, withEdits}
-use Rattle.sequencer.specs.Moves.{pushedReady, poppedReady, pushedActive, swapRemoved, pushedPast, activated, activatedBy, activates, finishes, heldAt, toReady}
+use Rattle.sequencer.specs.Parts.{withReady, withActive, withPast, withEdits}
+use Rattle.sequencer.specs.Moves.{pushedReady, poppedReady, pushedActive, swapRemoved, pushedPast, activated, activatedBy, activates, finishes, heldAt, toReady, allToReady}
+use Rattle.sequencer.specs.Resets.{rewinds}
 
 cond-same : {A B : Type 0} (f : A → B) (b : Bool) (x y : A) → f x ≡ f y → f (cond b x y) ≡ f y
 cond-same f true x y h = h
@@ -245,3 +246,44 @@ module _ (n p i : ℕ) (s r : Sequencer) where
       go : (f : ℕ) → i + f ≡ n → toReady f p i s ≡ r → s ≡ r
       go zero e g = g
       go (suc f) e g = absurd (omega arith)
+
+-- all of them wait, and both lists are empty
+pub readied-all : {n p i : ℕ} {s : Sequencer} (s₀ : Sequencer) → p ≡ min (s₀ .«past_len») 256 → {a : ℕ} → a ≡ min (s₀ .«active_len») 256 → n ≡ p + a → n ≤ i → Readying n p i s (toReady n p 0 s₀)
+    → withActive (withPast s (s .past) 0) (s .active) (s .«active_map») 0 ≡ allToReady s₀
+unfolding allToReady
+readied-all {n} {p} {i} {s} s₀ h k e l w =
+    ap (λ (x : Sequencer). withActive (withPast x (x .past) 0) (x .active) (x .«active_map») 0)
+    (readied n p i s _ l w ∙ ap (λ (m : ℕ). toReady m p 0 s₀) e ∙ ap₂ (λ (q b : ℕ). toReady (q + b) q 0 s₀) h k)
+
+-- ---- sources go back to their beginning
+
+-- of the n events of s that wait, those before place i are rewound, which made t
+pub record Rewinding (s : Sequencer) (n i : ℕ) (t : Sequencer) : Type 0 where
+  pub same : t ≡ withReady s (t .ready) (s .«ready_len»)
+  pub fuel : ℕ
+  pub exact : i + fuel ≡ n
+  pub gives : rewinds fuel (t .ready) i ≡ rewinds n (s .ready) 0
+
+module _ {s : Sequencer} {n : ℕ} where
+  pub rewinding-start : Rewinding s n 0 s
+  rewinding-start = record { same = refl; fuel = n; exact = omega arith; gives = refl }
+
+  module _ {i : ℕ} {t : Sequencer} where
+    pub rewinding-on : {e : Event} → e ≡ rewound (getD (t .ready) i blank) → i < n → Rewinding s n i t → Rewinding s n (i + 1) (withReady t (set (t .ready) i e) (t .«ready_len»))
+    unfolding rewinds
+    rewinding-on p l w = rw p (go (w .fuel) (w .exact) (w .gives))
+      where
+        xs : List Event
+        xs = set (t .ready) i (rewound (getD (t .ready) i blank))
+
+        go : (f : ℕ) → i + f ≡ n → rewinds f (t .ready) i ≡ rewinds n (s .ready) 0 → Rewinding s n (i + 1) (withReady t xs (t .«ready_len»))
+        go zero e g = absurd (omega arith)
+        go (suc f) e g = rw add-one (record { same = ap (λ (x : Sequencer). withReady x xs (x .«ready_len»)) (w .same); fuel = f; exact = omega arith; gives = g })
+
+    pub rewound-all : n ≤ i → Rewinding s n i t → t ≡ withReady s (rewinds n (s .ready) 0) (s .«ready_len»)
+    unfolding rewinds
+    rewound-all l w = go (w .fuel) (w .exact) (w .gives)
+      where
+        go : (f : ℕ) → i + f ≡ n → rewinds f (t .ready) i ≡ rewinds n (s .ready) 0 → t ≡ withReady s (rewinds n (s .ready) 0) (s .«ready_len»)
+        go zero e g = w .same ∙ ap (λ (xs : List Event). withReady s xs (s .«ready_len»)) g
+        go (suc f) e g = absurd (omega arith)

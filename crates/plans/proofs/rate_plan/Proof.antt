@@ -1,5 +1,6 @@
 -- `plans::rate_plan` meets its contract. Assumes nothing.
 use borrow.Author.Tests.{eq-eqb, ne-eqb}
+use lib.Ieee.{ofBits}
 use Rattle.plans.specs.Plans.{ratePlan}
 use borrow.Author.Needs.{needs}
 use Rattle.plans.proofs.rate_plan.Statement.{statement}
@@ -14,7 +15,7 @@ unfolding ratePlan
 returns-2 c = rw (← c .before .before .before .rate-refusal .ensures, eq-eqb _ _ (c .before .before .if1 .left), c .if2 .taken)
 
 returns-3 : tie.Need-returns-3
-unfolding ratePlan
+unfolding ratePlan ofBits
 returns-3 c = rw (← c .before .before .before .rate-refusal .ensures, eq-eqb _ _ (c .before .before .if1 .left), c .if2 .left)
 
 pub rate-plan-spec : {M : Type 1} → statement M

@@ -2,7 +2,7 @@ use borrow.Author.Needs.{needs}
 use native.Mathlib.Omega.{arith}
 use mathlib.Core.Path.{sym, _∙_}
 use Rattle.lists.specs.Edits.{foundEdit}
-use Rattle.lists.proofs.Rounds.{placed-inside}
+use Rattle.lists.specs.Rounds.{placed-inside}
 use Rattle.lists.proofs.EditMap.find.Statement.{statement}
 use Rattle.lists.proofs.EditMap.find.Tie as tie
 

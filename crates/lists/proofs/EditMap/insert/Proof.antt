@@ -3,7 +3,7 @@ use borrow.Author.Tests.{lt-ltb, le-ltb}
 use native.Mathlib.Omega.{arith}
 use mathlib.Core.Path.{sym, _∙_}
 use Rattle.lists.specs.Edits.{stored}
-use Rattle.lists.proofs.Rounds.{placed-inside}
+use Rattle.lists.specs.Rounds.{placed-inside}
 use Rattle.lists.proofs.EditMap.insert.Statement.{statement}
 use Rattle.lists.proofs.EditMap.insert.Tie as tie
 

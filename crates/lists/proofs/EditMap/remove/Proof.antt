@@ -6,7 +6,7 @@ use mathlib.Core.List.{List}
 use Rattle.event.specs.declared.StoredEdit.{StoredEdit}
 use Rattle.lists.specs.Search.{shift}
 use Rattle.lists.specs.Edits.{removed, noEdit}
-use Rattle.lists.proofs.Rounds.{placed-inside, Shifting, shifting-on, shifted}
+use Rattle.lists.specs.Rounds.{placed-inside, Shifting, shifting-on, shifted}
 use Rattle.lists.proofs.EditMap.remove.Statement.{statement}
 use Rattle.lists.proofs.EditMap.remove.Tie as tie
 

@@ -4,12 +4,10 @@ use borrow.Author.Tests.{lt-ltb, le-ltb, not-true, not-false}
 use native.Mathlib.Omega.{arith}
 use Prim.Native.Nat.{ℕ, _+_, _-_, _≤_, _<_}
 use mathlib.Core.Logic.{⊎-elim}
-use mathlib.Core.Path.{_≡_, refl, sym, ap, ap₂, _∙_}
-use Rattle.sequencer.specs.declared.Sequencer.{Sequencer}
-use Rattle.sequencer.specs.Parts.{withActive, withPast}
-use Rattle.sequencer.specs.Moves.{heldAt, toReady, allToReady}
+use mathlib.Core.Path.{_≡_, refl, sym, _∙_}
+use Rattle.sequencer.specs.Moves.{heldAt, toReady}
 use Rattle.sequencer.specs.Rounds.{RisingIn, rising-in, rising-in-on, risen-in-root, risen-in-stop, full}
-use Rattle.sequencer.specs.Turns.{Readying, readying-on, readied}
+use Rattle.sequencer.specs.Turns.{Readying, readying-on, readied-all}
 use Rattle.sequencer.proofs.Sequencer.all_to_ready.Statement.{statement}
 use Rattle.sequencer.proofs.Sequencer.all_to_ready.Tie as tie
 
@@ -62,16 +60,8 @@ loop-again-2 c =
     let l = d .before .before .before .loop in
     (l .inv .0, l .inv .1, readying-on _ _ _ _ _ _ _ (taken d) (full _ _ (c .if2 .left)) (d .before .before .loop-test .taken) (l .inv .2))
 
--- both lists are empty
-abbrev emptied : Sequencer → Sequencer
-emptied s = withActive (withPast s (s .past) 0) (s .active) (s .«active_map») 0
-
 returns : tie.Need-returns Inv-loop2 μ-loop2 Inv-loop μ-loop
-unfolding allToReady
-returns c =
-    let s = c .before .before .before .before .args .t1 in
-    ap emptied (readied _ _ _ _ _ (c .loop-test .left) (c .before .loop .inv .2)
-    ∙ ap₂ (λ (p a : ℕ). toReady (p + a) p 0 s) (c .before .before .before .least .ensures) (c .before .before .least2 .ensures))
+returns c = readied-all (c .before .before .before .before .args .t1) (c .before .before .before .least .ensures) (c .before .before .least2 .ensures) refl (c .loop-test .left) (c .before .loop .inv .2)
 
 pub all-to-ready-spec : {M : Type 1} → statement M
 all-to-ready-spec =

@@ -1,6 +1,6 @@
 -- The loops of the searches and of `remove`: what is left to do gives the definition's result r. Assumes nothing.
 use mathlib.Core.Bool.{Bool, true, false, cond}
-use mathlib.Core.Path.{_≡_, refl, subst}
+use mathlib.Core.Path.{_≡_, refl, ap, subst}
 use mathlib.Core.List.{List}
 use Prim.Native.Nat.{ℕ, zero, suc, _+_, _≤_, _<_}
 use native.Mathlib.Omega.{arith}
@@ -9,10 +9,12 @@ use lib.Dec.{leb}
 use lib.ListN.{getD, set}
 use borrow.Author.Tests.{leb-true}
 use Rattle.event.specs.declared.EventId.{EventId}
+use Rattle.lists.specs.declared.ActiveMap.{ActiveMap}
 use Rattle.lists.specs.declared.EditMap.{EditMap}
 use Rattle.lists.specs.declared.Found.{Found}
 use Rattle.lists.specs.declared.Found.the-variants.{At, Nothing}
 use Rattle.lists.specs.Search.{seek, shift}
+use Rattle.lists.specs.Index.{foundId, isId, noId}
 use Rattle.lists.specs.Edits.{placed, isEdit, noEdit}
 
 module _ {A : Type 0} (z : A) (p : A → Bool) where
@@ -81,22 +83,41 @@ module _ {A : Type 0} (z : A) where
       go zero e g = g
       go (suc f) e g = absurd (omega arith)
 
--- the place that is found stands below the count, and in the array
-abbrev Inside : ℕ → Found → Type 0
-Inside n (At i) = (i < n) × (n ≤ 256)
-Inside n Nothing = Unit {0}
+-- ---- an array with a count: one above 256 is corrupt, and nothing is found
+
+module _ {A : Type 0} (z : A) (p : A → Bool) (n : ℕ) (xs : List A) where
+  abbrev result : Bool → Found
+  result b = cond b (seek z p n xs 0) Nothing
+
+  -- the place that is found stands below the count, and in the array
+  abbrev Inside : Found → Type 0
+  Inside (At i) = (i < n) × (n ≤ 256)
+  Inside Nothing = Unit {0}
+
+  inside : (i : ℕ) → result (leb n 256) ≡ At i → (i < n) × (n ≤ 256)
+  inside i h = subst Inside h (go (leb n 256) (leb-true n 256))
+    where
+      within : n ≤ 256 → (f : Found) → Below z p n f → Inside f
+      within l (At j) b = (b, l)
+      within l Nothing b = tt
+
+      go : (b : Bool) → (b ≡ true → n ≤ 256) → Inside (result b)
+      go true l = within (l refl) (seek z p n xs 0) (seek-below z p n n xs 0 (omega arith))
+      go false l = tt
+
+  -- a loop that looks through as many as the array holds
+  pub seeking-start : {m : ℕ} → m ≡ cond (leb n 256) n 0 → Seeking z p m xs 0 (result (leb n 256))
+  unfolding seek
+  seeking-start {m} h = go (leb n 256) h
+    where
+      go : (b : Bool) → m ≡ cond b n 0 → Seeking z p m xs 0 (result b)
+      go true e = record { fuel = m; exact = omega arith; gives = ap (λ (k : ℕ). seek z p k xs 0) e }
+      go false e = record { fuel = 0; exact = omega arith; gives = refl }
 
 pub placed-inside : (a : EditMap) (k : EventId) (i : ℕ) → placed a k ≡ At i → (i < a .len) × (a .len ≤ 256)
 unfolding placed
-placed-inside a k i h = subst (λ (f : Found). Inside (a .len) f) h (go (leb (a .len) 256) (leb-true (a .len) 256))
-  where
-    s : Found
-    s = seek noEdit (isEdit k) (a .len) (a .items) 0
+placed-inside a k = inside noEdit (isEdit k) (a .len) (a .items)
 
-    within : a .len ≤ 256 → (f : Found) → Below noEdit (isEdit k) (a .len) f → Inside (a .len) f
-    within l (At j) b = (b, l)
-    within l Nothing b = tt
-
-    go : (b : Bool) → (b ≡ true → a .len ≤ 256) → Inside (a .len) (cond b s Nothing)
-    go true l = within (l refl) s (seek-below noEdit (isEdit k) (a .len) (a .len) (a .items) 0 (omega arith))
-    go false l = tt
+pub found-inside : (a : ActiveMap) (k : EventId) (i : ℕ) → foundId a k ≡ At i → (i < a .len) × (a .len ≤ 256)
+unfolding foundId
+found-inside a k = inside noId (isId k) (a .len) (a .ids)
