@@ -2,7 +2,7 @@
 use mathlib.Core.Path.{_≡_, refl, sym, ap, _∙_, subst}
 use mathlib.Core.Bool.{Bool, true, false, not, cond, Bool·beq, _&&_}
 use Prim.Native.Nat.{ℕ, _+_, _-_, _*_, _/_, _%_, _^_, _≤_, _<_}
-use native.Mathlib.Nat.{le-trans, le-of-eq, le-of-lt, lt-of-lt-of-le, mul-comm, mul-assoc, mul-one, mul-right-comm, mul-mul-mul-comm, mul-pos, mul-le-mul-left, mul-le-mul-right, le-of-mul-le-mul-right, mul-lt-mul-of-pos-right, lt-of-mul-lt-mul-right, sub-add-cancel, mod-lt, div-add-mod', div-lt-iff-lt-mul}
+use native.Mathlib.Nat.{le-trans, le-of-eq, lt-of-lt-of-le, mul-comm, mul-one, mul-mul-mul-comm, mul-pos, mul-le-mul-left, mul-le-mul-right, le-of-mul-le-mul-right, mul-lt-mul-of-pos-right, lt-of-mul-lt-mul-right, mod-lt, div-add-mod', div-lt-iff-lt-mul}
 use native.Mathlib.Omega.{arith}
 use lib.Dec.{T, ltb, lt→ltb}
 use lib.Pow.{pow-add, pow-pos, pow-mono}
@@ -13,6 +13,7 @@ use lib.Ieee.Fits.{down-pos, round-is}
 use lib.Ieee.Nearest.{closest}
 use lib.Ieee.Order.{drop, kept}
 use lib.Ieee.Scale.{round-same}
+use Rattle.math.specs.Addition.{add-at}
 use Rattle.floats.specs.Closest.{gap, closest-is}
 
 -- a and b are at most e apart
@@ -114,39 +115,6 @@ pick f s t a b c n h =
     go true h o = refl
     go false h o = absurd h
 
-scale-lt : (M N a b c P : ℕ) → 0 < P → M * c ≡ a * P → N * c ≡ b * P → a < b → M < N
-scale-lt M N a b c P Q e g h = lt-of-mul-lt-mul-right c (cross (M * c) (N * c) (a * P) (b * P) e g (mul-lt-mul-of-pos-right h Q))
-  where
-    cross : (x y z w : ℕ) → x ≡ z → y ≡ w → z < w → x < y
-    cross x y z w e g h = omega arith
-
-scale-sub : (M N a b c P : ℕ) → M * c ≡ a * P → N * c ≡ b * P → M < N → a < b → (N - M) * c ≡ (b - a) * P
-scale-sub M N a b c P e g h k = go (N - M) (b - a) (sub-add-cancel (le-of-lt h)) (sub-add-cancel (le-of-lt k))
-  where
-    go : (w v : ℕ) → w + M ≡ N → v + a ≡ b → w * c ≡ v * P
-    go w v i j =
-        let x : (w + M) * c ≡ N * c = ap (λ (z : ℕ). z * c) i in
-        let y : (v + a) * P ≡ b * P = ap (λ (z : ℕ). z * P) j in
-        omega arith
-
-add-at : (f : Format) (x y : Float) (s t : Bool) (a b c : ℕ) → 0 < c → Bool·beq s t ≡ false → a < b → HasValue x s a c → HasValue y t b c → add f x y ≡ round f t (b - a) c
-unfolding add
-add-at f nan y s t a b c C n h p q = absurd p
-add-at f (inf u) y s t a b c C n h p q = absurd p
-add-at f (fin u m e) nan s t a b c C n h p q = absurd q
-add-at f (fin u m e) (inf v) s t a b c C n h p q = absurd q
-add-at f (fin u m e) (fin v k g) s t a b c C n h p q =
-    let M = m * up e * down g in
-    let N = k * up g * down e in
-    let P = down e * down g in
-    let x : M * c ≡ a * P = mul-right-comm (m * up e) (down g) c ∙ ap (λ (z : ℕ). z * down g) (p .1) ∙ mul-assoc a (down e) (down g) in
-    let y : N * c ≡ b * P = mul-right-comm (k * up g) (down e) c ∙ ap (λ (z : ℕ). z * down e) (q .1) ∙ mul-assoc b (down g) (down e) ∙ ap (λ (z : ℕ). b * z) (mul-comm (down g) (down e)) in
-    let l : M < N = scale-lt M N a b c P (mul-pos (down-pos e) (down-pos g)) x y h in
-    ap (λ (z : Bool). sum f z M v N P) (p .0)
-    ∙ ap (λ (z : Bool). sum f s M z N P) (q .0)
-    ∙ pick f s t M N P n l
-    ∙ round-same f t (N - M) P (b - a) c (mul-pos (down-pos e) (down-pos g)) C (scale-sub M N a b c P x y l h)
-
 -- ---- the two operations, with results below c
 module _ (x y : Float) (s t : Bool) (a b c h : ℕ) (m : Half c h) (p : HasValue x s a unit) (q : HasValue y t b unit) where
   pub product : a * b < c * unit * unit → Out (mul binary32 x y) (unlike s t) unit (a * b) h
@@ -156,5 +124,5 @@ module _ (x y : Float) (s t : Bool) (a b c h : ℕ) (m : Half c h) (p : HasValue
 
   pub difference : Bool·beq s t ≡ false → a < b → b - a < c * unit * 1 → Out (add binary32 x y) t 1 (b - a) h
   difference n i l =
-      subst (λ (z : Float). Out z t 1 (b - a) h) (sym (add-at binary32 x y s t a b unit (pow-pos 149) n i p q ∙ ap (round binary32 t (b - a)) (sym (mul-one unit))))
+      subst (λ (z : Float). Out z t 1 (b - a) h) (sym (add-at binary32 x y s t a b unit (pow-pos 149) p q ∙ pick binary32 s t a b unit n i ∙ ap (round binary32 t (b - a)) (sym (mul-one unit))))
       (rounded t (b - a) 1 c h m (pow-pos 0) l)

@@ -12,7 +12,7 @@ use lib.Ieee.{Float, nan, inf, fin, binary32, up, down, round, sum}
 use lib.Ieee.Fits.{and-l, and-r, and-i}
 use lib.Ieee.Exact.{HasValue, round-exact}
 use Rattle.floats.specs.Arithmetic.{_+ˢ_, zeroᶠ}
-use Rattle.sums.specs.Addition.{add-at}
+use Rattle.math.specs.Addition.{add-at}
 use Rattle.sums.specs.Multiples.{multiple, multiples, summed, signed, numerator, exactSum, below-zero, Exactly}
 
 -- ---- the f32 of z / 32768: below 2 ^ 24 of them it is that number

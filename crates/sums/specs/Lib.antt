@@ -1,5 +1,4 @@
 pub mod Multiples
-pub mod Addition
 pub mod Exact
 pub mod Theorem
 pub mod Cases
