@@ -3,10 +3,14 @@ use Prim.Native.Nat.{ℕ}
 use mathlib.Core.Bool.{true, false}
 use mathlib.Core.Path.{_≡_, refl}
 use mathlib.Core.List.{List, [], _∷_, _++_}
-use lib.Ieee.{ofBits, lt, le}
+use lib.Ieee.{Float, binary32, binary64, ofBits, lt, le}
 use lib.ListN.{length, take, drop, replicate}
 use Rattle.event.specs.declared.ReplayMode.the-variants.{All}
-use Rattle.ledger.specs.Calls.{Call, Reply}
+use Rattle.event.specs.declared.Fade.the-variants.{Power}
+use Rattle.event.specs.declared.Source.the-variants.{Ramp}
+use Rattle.floats.specs.Arithmetic.{oneᶠ}
+use Rattle.ledger.specs.Calls.{Call, push, PushKind, absolute, relative, byDuration, number, applied, past, stored, done, refused, Reply}
+use Rattle.apply.specs.RecordCalls.{refusalOf}
 use Rattle.ledger.specs.Ledger.{Ledger, create}
 use Rattle.ledger.specs.LedgerMeets.{pairOf}
 use Rattle.ledger.specs.Steps.{step}
@@ -49,6 +53,27 @@ curve-byte : (stopOf noCurve ≡ 14) × (stopOf (take 34 noCurve) ≡ 14) × (st
 unfolding stopOf pushKind unknownPush sizeOf sizes
 curve-byte = (refl, refl, refl)
 
+-- the call: from 1.0 to 4.0 (or as long), fades of 0.5 and 0.25, curve power, a ramp from 1.0 by 0.5; 0A to 0C have a gain of 2.0
+abbrev ramp : List ℕ
+ramp =
+    0 ∷ 0 ∷ 0 ∷ 0 ∷ 0 ∷ 0 ∷ 0xF0 ∷ 0x3F ∷ 0 ∷ 0 ∷ 0 ∷ 0 ∷ 0 ∷ 0 ∷ 0x10 ∷ 0x40 ∷ 0 ∷ 0 ∷ 0 ∷ 0 ∷ 0 ∷ 0 ∷ 0xE0 ∷ 0x3F ∷ 0 ∷ 0 ∷ 0 ∷ 0 ∷ 0 ∷ 0 ∷ 0xD0 ∷ 0x3F
+    ∷ 0 ∷ 1 ∷ 0 ∷ 0 ∷ 0x80 ∷ 0x3F ∷ 0 ∷ 0 ∷ 0x00 ∷ 0x3F ∷ 0 ∷ 0 ∷ 0 ∷ 0x40 ∷ []
+
+abbrev pushOfRamp : PushKind → (gain : Float) → Call
+pushOfRamp kind gain =
+    push kind (ofBits binary64 0x3FF0000000000000) (ofBits binary64 0x4010000000000000) (ofBits binary64 0x3FE0000000000000) (ofBits binary64 0x3FD0000000000000)
+    Power (Ramp (ofBits binary32 0x3F800000) (ofBits binary32 0x3F000000)) gain
+
+-- "01 push, 02 relative, 03 by duration", and "the same pushes with four gain bytes"
+calls-of-kinds : (callOf (0x01 ∷ ramp) ≡ pushOfRamp absolute oneᶠ) × (callOf (0x02 ∷ ramp) ≡ pushOfRamp relative oneᶠ) × (callOf (0x03 ∷ ramp) ≡ pushOfRamp byDuration oneᶠ)
+    × (callOf (0x0A ∷ ramp) ≡ pushOfRamp absolute (ofBits binary32 0x40000000)) × (callOf (0x0B ∷ ramp) ≡ pushOfRamp relative (ofBits binary32 0x40000000)) × (callOf (0x0C ∷ ramp) ≡ pushOfRamp byDuration (ofBits binary32 0x40000000))
+unfolding callOf pushOf sourceOf field fromLittleEndian
+calls-of-kinds = (refl, refl, refl, refl, refl, refl)
+
+-- an answer's refusal
+refusals : (refusalOf (refused 4) ≡ 4) × (refusalOf (number 7) ≡ 0) × (refusalOf applied ≡ 0) × (refusalOf past ≡ 0) × (refusalOf stored ≡ 0) × (refusalOf done ≡ 0)
+refusals = (refl, refl, refl, refl, refl, refl)
+
 -- ---- a run
 
 abbrev call : Ledger → Call → Ledger × Reply
@@ -68,6 +93,16 @@ refused-ends : (after 3 (clip ++ (tooLate ++ (0xFF ∷ []))) .numbers ≡ 1 ∷ 
 unfolding after stopOf pushKind unknownPush sizeOf sizes callOf pushOf sourceOf field fromLittleEndian ofBits lt le create
 refused-ends = (refl, refl)
 
+-- "The engine .. equal those of the single pushes": what is left behind, also where the run ends early
+left-behind : (after 2 (clip ++ clip) .state .next ≡ 3) × (length (after 2 (clip ++ clip) .state .waiting) ≡ 2) × (after 3 (clip ++ (tooLate ++ clip)) .state .next ≡ 2) × (after 2 clip .state .next ≡ 2)
+unfolding after stopOf pushKind unknownPush sizeOf sizes callOf pushOf sourceOf field fromLittleEndian ofBits lt le create
+left-behind = (refl, refl, refl, refl)
+
+-- a record with gain bytes is longer: the next one begins behind them
+behind-gain : (after 2 (0x0A ∷ (drop 1 clip ++ (0 ∷ 0 ∷ 0x80 ∷ 0x3F ∷ clip))) .numbers ≡ 1 ∷ 2 ∷ []) × (after 2 (0x0A ∷ (drop 1 clip ++ (0 ∷ 0 ∷ 0x80 ∷ 0x3F ∷ []))) .ended ≡ 15)
+unfolding after stopOf pushKind unknownPush sizeOf sizes callOf pushOf sourceOf field fromLittleEndian ofBits lt le create
+behind-gain = (refl, refl)
+
 missing-ends : (after 2 clip .numbers ≡ 1 ∷ []) × (after 2 clip .ended ≡ 15) × (after 2 (clip ++ (0x06 ∷ [])) .ended ≡ 14)
 unfolding after stopOf pushKind unknownPush sizeOf sizes callOf pushOf sourceOf field fromLittleEndian ofBits lt le create
 missing-ends = (refl, refl, refl)
@@ -83,6 +118,11 @@ limits = (refl, refl, refl, refl, refl)
 sixteen : (pushAll call clip 33 (replicate 32 9) (create 1 All 1 .ledger) .ended ≡ 16) × (pushAll call clip 1 (9 ∷ []) (create 1 All 1 .ledger) .numbers ≡ [])
 unfolding pushAll beyond
 sixteen = (refl, refl)
+
+-- "a run of push records with their count, reads no further"
+whole-call : (pushAll call (clip ++ (clip ++ clip)) 2 (replicate 32 9) (create 1 All 1 .ledger) .numbers ≡ 1 ∷ 2 ∷ []) × (pushAll call clip 2 (replicate 32 9) (create 1 All 1 .ledger) .ended ≡ 15)
+unfolding pushAll beyond step stopOf pushKind unknownPush sizeOf sizes callOf pushOf sourceOf field fromLittleEndian ofBits lt le create
+whole-call = (refl, refl)
 
 -- "into a lent slice of 32, the rest of it left"
 in-front : written (5 ∷ 6 ∷ []) (9 ∷ 9 ∷ 9 ∷ 9 ∷ []) ≡ 5 ∷ 6 ∷ 9 ∷ 9 ∷ []
