@@ -297,29 +297,32 @@ fn open(tape: &[u8], out: &[u8], path: &[u8], own: bool) {
     libc::close(from);
 }
 
-fn main() {
-    let count = os::arg_count();
-    if count < 3 || 4 < count {
-        say::usage();
+// TAPE OUT, and POOL or --pool POOL.
+fn choose(count: usize, tape: &[u8], out: &[u8], a: &[u8], b: &[u8]) {
+    let named = pool_file::is_option(a);
+    if count == 3 {
+        open(tape, out, a, false);
         return;
     }
+    if count == 4 && !named {
+        open(tape, out, a, true);
+        return;
+    }
+    if count == 5 && named {
+        open(tape, out, b, true);
+        return;
+    }
+    say::usage();
+}
+
+fn main() {
     let mut tape = io::buffer();
     let n = os::arg(1, &mut tape);
-    if os::errno() != 0 {
-        os::fail(b"trail_wav: TAPE");
-        return;
-    }
     let mut out = io::buffer();
     let m = os::arg(2, &mut out);
-    if os::errno() != 0 {
-        os::fail(b"trail_wav: OUT.wav");
-        return;
-    }
-    let mut path = io::buffer();
-    let k = os::arg(3, &mut path);
-    if count == 4 && os::errno() != 0 {
-        os::fail(b"trail_wav: POOL");
-        return;
-    }
-    open(&tape[..n], &out[..m], &path[..k], count == 4);
+    let mut a = io::buffer();
+    let k = os::arg(3, &mut a);
+    let mut b = io::buffer();
+    let l = os::arg(4, &mut b);
+    choose(os::arg_count(), &tape[..n], &out[..m], &a[..k], &b[..l]);
 }

@@ -31,14 +31,14 @@ impl Heard {
 }
 
 pub(crate) fn usage() {
-    io::write_all(2, b"usage: trail_wav TAPE OUT.wav [POOL]\n");
+    io::write_all(2, b"usage: trail_wav TAPE OUT.wav [--pool FILE]\n");
     io::write_all(
         2,
         b"Plays the tape TAPE into OUT.wav, a WAV of 32-bit float samples, channels interleaved.\n",
     );
     io::write_all(
         2,
-        b"Clips read from POOL, a WAV of one channel of 32-bit floats or a file of such samples; without it, from document 01's pool.\n",
+        b"Clips read from FILE, a WAV of one channel of 32-bit floats or a file of such samples; without it, from document 01's pool.\n",
     );
     io::write_all(
         2,
