@@ -6,12 +6,8 @@ use lib.Ieee.{Float, eq}
 use Rattle.event.specs.declared.Event.{Event}
 use Rattle.event.specs.declared.ReplayMode.{ReplayMode}
 use Rattle.event.specs.declared.ReplayMode.the-variants.{All, None}
-use Rattle.event.specs.Events.{newEvent, earlier, editedBy}
+use Rattle.event.specs.Events.{newEvent, earlier}
 use Rattle.floats.specs.Arithmetic.{_+ᵈ_, _-ᵈ_, _×ᵈ_, _÷ᵈ_, _<ᶠ_, zeroᶠ, halfᶠ, oneᶠ, whole}
-use Rattle.lists.specs.declared.EditMap.{EditMap}
-use Rattle.lists.specs.declared.FoundEdit.{FoundEdit}
-use Rattle.lists.specs.declared.FoundEdit.the-variants.{Stored, Missing}
-use Rattle.lists.specs.Edits.{foundEdit, removed}
 use Rattle.refusals.specs.Refusals.{pushRefusal, editLimits, tickRefusal, processRefusal, rateRefusal}
 use Rattle.tape.specs.declared.reader.PushRecord.{PushRecord}
 use Rattle.tape.specs.declared.reader.EditRecord.{EditRecord}
@@ -19,7 +15,6 @@ use Rattle.tape.specs.declared.reader.Call.{Call}
 use Rattle.tape.specs.declared.reader.Call.the-variants as Call
 use Rattle.plans.specs.declared.Clock.{Clock}
 use Rattle.plans.specs.declared.Step.{Step}
-use Rattle.plans.specs.declared.Taken.{Taken}
 use Rattle.plans.specs.declared.Plan.{Plan}
 use Rattle.plans.specs.declared.Plan.the-variants.{Answer, Sound, Wait, Render, Full, Amend, Clear, Requeue, Create}
 
@@ -119,13 +114,9 @@ pastAfter b past = cond b 0 past
 abbrev pub startsBefore : (waiting : ℕ) → (start threshold : Float) → Bool
 startsBefore n start θ = ltb 0 n && leb n 256 && start <ᶠ θ
 
--- an event with its edit, which is no longer stored
-abbrev pub takenBy : EditMap → Event → FoundEdit → Taken
-takenBy m e (Stored d) = record { event = editedBy d e; edits = removed m (e .id) }
-takenBy m e Missing = record { event = e; edits = m }
-
-abbrev pub takenFrom : EditMap → Event → Taken
-takenFrom m e = takenBy m e (foundEdit m (e .id))
+-- a corrupt count holds nothing
+abbrev pub countedPlaces : ℕ → ℕ
+countedPlaces n = cond (leb n 256) n 0
 
 -- of the children at c and c + 1 the one that leaves the heap first; of one child, it
 abbrev pub lesserChild : (c n : ℕ) → (left right : Event) → ℕ

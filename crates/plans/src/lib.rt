@@ -3,7 +3,7 @@ ghost use mathlib.Core.Path.{_≡_};
 ghost use Prim.Native.Nat.{_≤_};
 ghost use lib.ListN.{getD, set};
 ghost use Rattle.floats.specs.Arithmetic.{_+ˢ_, zeroᶠ, -∞};
-ghost use Rattle.plans.specs.Plans.{pushPlan, releasesIn, stepOf, stepPlan, tickPlan, blockPlan, editPlan, resetPlan, ratePlan, planOf, letGoAfter, pastAfter, startsBefore, takenFrom, lesserChild, isWithin, rewoundPlaces, allGone};
+ghost use Rattle.plans.specs.Plans.{pushPlan, releasesIn, stepOf, stepPlan, tickPlan, blockPlan, editPlan, resetPlan, ratePlan, planOf, letGoAfter, pastAfter, startsBefore, countedPlaces, lesserChild, isWithin, rewoundPlaces, allGone};
 ghost use Rattle.plans.specs.Sounding.{soundedEvent, soundedRow, writtenTo};
 use event::Edit;
 use event::Event;
@@ -11,8 +11,6 @@ use event::EventId;
 use event::Placings;
 use event::ReplayMode;
 use event::Unit;
-use lists::EditMap;
-use lists::FoundEdit;
 use mixing::Span;
 use refusals::edit_limits;
 use refusals::process_refusal;
@@ -301,23 +299,11 @@ pub fn starts(waiting: usize, start: f64, threshold: f64) -> bool
     start < threshold
 }
 
-pub struct Taken {
-    pub event: Event,
-    pub edits: EditMap,
-}
-
-pub fn take_edit(edits: EditMap, event: Event) -> Taken
-    ensures { λ r. ⌜ r ≡ takenFrom edits event ⌝ }
+// How many an array holds by its count; a corrupt one, nothing.
+pub fn counted(n: usize) -> usize
+    ensures { λ r. ⌜ r ≡ countedPlaces n ⌝ }
 {
-    let id = event.id;
-    let found = edits.find(id);
-    match found {
-        FoundEdit::Stored(edit) => Taken {
-            event: event.edited(edit),
-            edits: edits.remove(id),
-        },
-        FoundEdit::Missing => Taken { event, edits },
-    }
+    if n <= 256 { n } else { 0 }
 }
 
 // Of the children at c and c + 1 the one that precedes; of one child, it.

@@ -5,7 +5,7 @@ use mathlib.Core.Path.{_≡_, refl, sym, ap, _∙_, subst}
 use Prim.Native.Nat.{ℕ, zero, suc, _+_, _-_, _*_, _%_, _^_, _≤_, _<_, min}
 use native.Mathlib.Omega.{arith}
 use native.Mathlib.Decide.{decLt}
-use borrow.Author.Tests.{lt-ltb, le-leb, ltb-true, leb-true}
+use borrow.Author.Tests.{lt-ltb, le-ltb, le-leb, ltb-true, leb-true}
 use lib.Dec.{ltb, leb}
 use lib.Ieee.{Float}
 use lib.ListN.{getD, set, take, replicate}
@@ -13,6 +13,7 @@ use Rattle.event.specs.declared.Edit.{Edit}
 use Rattle.event.specs.declared.Event.{Event}
 use Rattle.event.specs.declared.MixOrder.the-variants.{Forward}
 use Rattle.event.specs.declared.EventId.{EventId}
+use Rattle.event.specs.declared.StoredEdit.{StoredEdit}
 use Rattle.event.specs.declared.ReplayMode.the-variants.{None}
 use Rattle.event.specs.declared.Unit.{Unit as SourceUnit}
 use Rattle.event.specs.Events.{blank, earlier, editedBy, withUnit}
@@ -23,22 +24,21 @@ use Rattle.ledger.specs.TickSamples.{afterTick}
 use Rattle.ledger.specs.BlockSamples.{firstPlace, endPlace, afterBlock}
 use Rattle.lists.specs.declared.EditMap.{EditMap}
 use Rattle.lists.specs.declared.Found.the-variants.{At, Nothing}
-use Rattle.lists.specs.Index.{foundId}
-use Rattle.lists.specs.declared.FoundEdit.{FoundEdit}
-use Rattle.lists.specs.declared.FoundEdit.the-variants.{Stored, Missing}
-use Rattle.lists.specs.Edits.{foundEdit, stored}
+use Rattle.lists.specs.Search.{shift}
+use Rattle.lists.specs.Index.{foundId, isId, noId}
+use Rattle.lists.specs.Rounds.{Seeking, seeking-start}
+use Rattle.lists.specs.Edits.{noEdit, isEdit, placed, foundAt, storedAt, removedAt, foundEdit, stored, removed}
 use Rattle.ready.specs.Sift.{child}
 use Rattle.sequencer.specs.declared.Sequencer.{Sequencer}
 use Rattle.sequencer.specs.Parts.{withReady, withActive, withPast, withEdits, withTimes, withRate, withNext, withLetGo, withSounding}
-use Rattle.sequencer.specs.Moves.{pushedReady, pushedActive, readyToActive, activeToPast, allToReady}
+use Rattle.sequencer.specs.Moves.{pushedReady, poppedReady, pushedActive, readyToActive, activeToPast, allToReady}
 use Rattle.sequencer.specs.Edits.{indexOf, changedBy, changed}
 use Rattle.sequencer.specs.Resets.{rewinds, emptiedLists, resetBy, resets}
 use Rattle.sequencer.specs.Turns.{Activating, activated-none, activated-beyond, activated-late, Taking, taking-missing, taking-stored, Finishing, finished-end, finished-beyond}
 use Rattle.sequencer.specs.Steady.{Passing, passing-on}
 use Rattle.plans.specs.declared.Step.{Step}
 use Rattle.plans.specs.declared.Requeue.{Requeue}
-use Rattle.plans.specs.declared.Taken.{Taken}
-use Rattle.plans.specs.Plans.{startsBefore, takenBy, takenFrom, lesserChild, isWithin, rewoundPlaces, allGone}
+use Rattle.plans.specs.Plans.{startsBefore, countedPlaces, lesserChild, isWithin, rewoundPlaces, allGone}
 use Rattle.plans.specs.Sounding.{spanIn, soundedEvent}
 use Rattle.player.proofs.Meaning.{begunIn, advancedIn, afterRequeue, requeuedIn}
 
@@ -53,6 +53,43 @@ entered-active s e h q = rw (lt-ltb (s .«active_len») 256 h) (ap (withNext (wi
 pub entered-ready : (s t x : Sequencer) (e : Event) {m : ℕ} → t ≡ withReady s (t .ready) (s .«ready_len») → x ≡ pushedReady s e → m ≡ (t .next + 1) % 2 ^ 64
     → withNext x m ≡ withNext (pushedReady s e) ((s .next + 1) % 2 ^ 64)
 entered-ready s t x e same g q = (λ i. withNext (g i) (q i)) ∙ ap (λ (y : Sequencer). withNext (pushedReady s e) ((y .next + 1) % 2 ^ 64)) same
+
+-- ---- the edits stand beside the engine
+
+-- the heap knows nothing of them
+module _ (s : Sequencer) (m : EditMap) where
+  pub pushed-beside : (e : Event) → withEdits (pushedReady s e) m ≡ pushedReady (withEdits s m) e
+  unfolding pushedReady
+  pushed-beside e = refl
+
+  pub popped-beside : withEdits (poppedReady s) m ≡ poppedReady (withEdits s m)
+  unfolding poppedReady
+  popped-beside = refl
+
+-- ---- searches
+
+pub counted-few : (m : ℕ) {n : ℕ} → n ≡ countedPlaces m → n ≤ 256
+counted-few m {n} h = go (leb m 256) (leb-true m 256) h
+  where
+    go : (b : Bool) → (b ≡ true → m ≤ 256) → n ≡ cond b m 0 → n ≤ 256
+    go true l e = omega (arith, l refl)
+    go false l e = omega arith
+
+-- where one is found the count is not corrupt
+counted-some : (m : ℕ) {n j : ℕ} → n ≡ countedPlaces m → j < n → n ≡ m
+counted-some m {n} {j} h l = go (leb m 256) h
+  where
+    go : (b : Bool) → n ≡ cond b m 0 → n ≡ m
+    go true e = e
+    go false e = absurd (omega arith)
+
+pub seeking-edit : (m : EditMap) (k : EventId) {n : ℕ} → n ≡ countedPlaces (m .len) → Seeking noEdit (isEdit k) n (m .items) 0 (placed m k)
+unfolding placed
+seeking-edit m k h = seeking-start noEdit (isEdit k) (m .len) (m .items) h
+
+pub seeking-id : (s : Sequencer) (k : EventId) {n : ℕ} → n ≡ countedPlaces (s .«active_len») → Seeking noId (isId k) n (s .«active_map») 0 (foundId (indexOf s) k)
+unfolding foundId
+seeking-id s k h = seeking-start noId (isId k) (s .«active_len») (s .«active_map») h
 
 -- ---- events that start
 
@@ -78,13 +115,23 @@ starts-false s r h w = go (decLt 0 (s .«ready_len»)) (decLt 256 (s .«ready_le
             → startsBefore (s .«ready_len») (getD (s .ready) 0 blank .«start_time») (s .«active_threshold») ≡ true
         starts-all p q r = rw (lt-ltb 0 (s .«ready_len») p, le-leb (s .«ready_len») 256 q) r
 
--- the event takes its edit
-pub taking-edit : {s t : Sequencer} {f e : Event} (r : Taken) → r ≡ takenFrom (s .«edit_map») f → t ≡ withEdits s (r .edits) → e ≡ r .event → Taking s f t e
-taking-edit {s} {t} {f} {e} r g p q = go (foundEdit (s .«edit_map») (f .id)) refl g
-  where
-    go : (d : FoundEdit) → foundEdit (s .«edit_map») (f .id) ≡ d → r ≡ takenBy (s .«edit_map») f d → Taking s f t e
-    go (Stored d) h g = taking-stored h (p ∙ ap (λ (y : Taken). withEdits s (y .edits)) g) (q ∙ ap (λ (y : Taken). y .event) g)
-    go Missing h g = taking-missing h (p ∙ ap (λ (y : Taken). withEdits s (y .edits)) g) (q ∙ ap (λ (y : Taken). y .event) g)
+-- the event takes its edit from place j, and the later ones close the gap
+module _ (s : Sequencer) (m : EditMap) (f : Event) where
+  pub taking-at : {j n : ℕ} {xs : List StoredEdit} {e : Event} → n ≡ countedPlaces (m .len) → j < n → At j ≡ placed m (f .id) → xs ≡ shift noEdit (n - 1 - j) (m .items) j → e ≡ editedBy (getD (m .items) j noEdit .edit) f
+      → Taking (withEdits s m) f (withEdits s (record { items = xs; len = n - 1 })) e
+  unfolding foundEdit removed
+  taking-at {j} {n} {xs} h l p g q =
+      let k = counted-some (m .len) h l in
+      taking-stored (ap (foundAt m) (sym p)) (ap (withEdits s) ((λ i. record { items = g i; len = n - 1 }) ∙ ap (λ (c : ℕ). record { items = shift noEdit (c - 1 - j) (m .items) j; len = c - 1 }) k ∙ ap (removedAt m) p)) q
+
+  -- as the code leaves map and event
+  pub taken-is : {x y : EditMap} {e g : Event} → x ≡ y → e ≡ g → Taking (withEdits s m) f (withEdits s y) g → Taking (withEdits s m) f (withEdits s x) e
+  taken-is {x} {y} {e} {g} p q w =
+      subst (λ (z : EditMap). Taking (withEdits s m) f (withEdits s z) e) (sym p) (subst (λ (z : Event). Taking (withEdits s m) f (withEdits s y) z) (sym q) w)
+
+  pub taking-no : Nothing ≡ placed m (f .id) → Taking (withEdits s m) f (withEdits s m) f
+  unfolding foundEdit
+  taking-no p = taking-missing (ap (foundAt m) (sym p)) refl refl
 
 -- the child that the code takes is that of the definition
 module _ (xs : List Event) (m i c : ℕ) (g : c ≡ lesserChild (2 * i + 1) m (getD xs (2 * i + 1) blank) (getD xs (2 * i + 2) blank)) where
@@ -134,9 +181,23 @@ module _ (s : Sequencer) (k : EventId) (d : Edit) where
   unfolding changed changedBy
   amended-past h g = rw (h, g)
 
-  pub amended-stored : {m : EditMap} → foundId (indexOf s) k ≡ Nothing → (d .«end_time» <ᶠ s .«active_threshold») ≡ false → m ≡ stored (s .«edit_map») k d → withEdits s m ≡ changed s k d .sequencer
+-- the edit is stored beside the engine: in its place, behind the others, or nowhere
+module _ (s : Sequencer) (m : EditMap) (k : EventId) (d : Edit) (none : foundId (indexOf s) k ≡ Nothing) (late : (d .«end_time» <ᶠ s .«active_threshold») ≡ false) where
+  stored-in : {x : EditMap} → x ≡ stored m k d → withEdits s x ≡ changed (withEdits s m) k d .sequencer
   unfolding changed changedBy
-  amended-stored h g q = rw (h, g, q)
+  stored-in g = rw (none, late) (ap (withEdits s) g)
+
+  pub stored-at : {j : ℕ} → At j ≡ placed m k → withEdits s (record { items = set (m .items) j (record { id = k; edit = d }); len = m .len }) ≡ changed (withEdits s m) k d .sequencer
+  unfolding stored
+  stored-at p = stored-in (ap (storedAt m (record { id = k; edit = d })) p)
+
+  pub stored-last : Nothing ≡ placed m k → m .len < 256 → withEdits s (record { items = set (m .items) (m .len) (record { id = k; edit = d }); len = m .len + 1 }) ≡ changed (withEdits s m) k d .sequencer
+  unfolding stored
+  stored-last p l = stored-in (sym (simp (lt-ltb (m .len) 256 l)) ∙ ap (storedAt m (record { id = k; edit = d })) p)
+
+  pub stored-nowhere : Nothing ≡ placed m k → 256 ≤ m .len → withEdits s m ≡ changed (withEdits s m) k d .sequencer
+  unfolding stored
+  stored-nowhere p l = stored-in (sym (simp (le-ltb (m .len) 256 l)) ∙ ap (storedAt m (record { id = k; edit = d })) p)
 
 pub cleared : (s : Sequencer) {l : ℕ} {θ : Float} → l ≡ allGone (s .«let_go») (s .«past_len») (s .«ready_len») (s .«active_len») → θ ≡ -∞ → s .mode ≡ None
     → withTimes (emptiedLists s l) zeroᶠ θ ≡ resets s

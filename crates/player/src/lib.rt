@@ -6,8 +6,7 @@ ghost use mathlib.Core.List.{_++_};
 ghost use lib.ListN.{length, drop};
 ghost use Rattle.tape.specs.Pool.{trailPool};
 ghost use Rattle.player.specs.Records.{playedInto, played};
-use lists::ActiveMap;
-use lists::Found;
+use event::StoredEdit;
 use plans::Clock;
 use plans::Plan;
 use refusals::held;
@@ -16,13 +15,15 @@ use tape::reader::Cursor;
 use tape::reader::Read;
 
 // The one function that owns the engine. It is long because every loop that moves events stands in it: an engine that goes through a function in a loop is copied, 63,584 bytes, each time.
-// Each arm has document 01's sentence; a creation, a reset in mode All and another rate are rare and go by value.
+// Each arm has document 01's sentence; a creation, which is rare, goes by value.
 fn run(tape: &[u8], pool: &[f32], samples: &mut [f32], out: &mut [u8]) -> usize
     requires { ⌜ length (now samples) ≡ 512 ⌝ }
     ensures { λ r. ⌜ r ≡ length (playedInto (now (pool .entry)) (now (tape .entry)) (now (samples .entry)) (length (now (out .entry)))) ⌝ }
     ensures { λ r. ⌜ now (out .exit) ≡ playedInto (now (pool .entry)) (now (tape .entry)) (now (samples .entry)) (length (now (out .entry))) ++ drop r (now (out .entry)) ⌝ }
 {
     let mut s = apply::start();
+    // The stored edits stand beside the engine, so that one place of theirs is written and not the whole map copied.
+    let mut edits = s.edit_map;
     let mut cursor = Cursor { at: 0, first: true };
     let mut at: usize = 0;
     loop {
@@ -94,12 +95,27 @@ fn run(tape: &[u8], pool: &[f32], samples: &mut [f32], out: &mut [u8]) -> usize
                     }
                     let id = first.id;
                     let mut event = first;
-                    if 0 < s.edit_map.len {
-                        let edits = s.edit_map;
-                        let t = plans::take_edit(edits, first);
-                        event = t.event;
-                        let edits = t.edits;
-                        s.edit_map = edits;
+                    let known = plans::counted(edits.len);
+                    let mut j = 0;
+                    while j < known {
+                        let stored = edits.items[j];
+                        let key = stored.id;
+                        if key.0 == id.0 {
+                            break;
+                        }
+                        j = j + 1;
+                    }
+                    if j < known {
+                        let stored = edits.items[j];
+                        let edit = stored.edit;
+                        event = first.edited(edit);
+                        let m = known - 1;
+                        while j < m {
+                            let next = edits.items[j + 1];
+                            edits.items[j] = next;
+                            j = j + 1;
+                        }
+                        edits.len = m;
                     }
                     let m = s.ready_len - 1;
                     let last = s.ready[m];
@@ -163,31 +179,44 @@ fn run(tape: &[u8], pool: &[f32], samples: &mut [f32], out: &mut [u8]) -> usize
             }
             // Edit: "in S, replace end and fade-out. Else, if end < θ, nothing. Else store in E, replacing an earlier edit".
             Plan::Amend(id, edit) => {
-                let ids = s.active_map;
-                let index = ActiveMap {
-                    ids,
-                    len: s.active_len,
-                };
-                let found = index.find(id);
-                match found {
-                    Found::At(i) => {
-                        let event = s.active[i];
-                        let event = event.edited(edit);
-                        s.active[i] = event;
+                let sounding = plans::counted(s.active_len);
+                let mut i = 0;
+                while i < sounding {
+                    let x = s.active_map[i];
+                    if x.0 == id.0 {
+                        break;
                     }
-                    Found::Nothing => {
-                        if !(edit.end_time < s.active_threshold) {
-                            let edits = s.edit_map;
-                            let edits = edits.insert(id, edit);
-                            s.edit_map = edits;
+                    i = i + 1;
+                }
+                if i < sounding {
+                    let event = s.active[i];
+                    let event = event.edited(edit);
+                    s.active[i] = event;
+                } else if !(edit.end_time < s.active_threshold) {
+                    let known = plans::counted(edits.len);
+                    let mut j = 0;
+                    while j < known {
+                        let stored = edits.items[j];
+                        let key = stored.id;
+                        if key.0 == id.0 {
+                            break;
                         }
+                        j = j + 1;
+                    }
+                    let new = StoredEdit { id, edit };
+                    if j < known {
+                        edits.items[j] = new;
+                    } else if edits.len < 256 {
+                        let n = edits.len;
+                        edits.items[n] = new;
+                        edits.len = n + 1;
                     }
                 }
             }
             // Reset: "None appends the numbers of F, W and S to G and empties all four of W, S, F and E. t = 0, θ = -infinity."
             Plan::Clear => {
                 s.let_go = plans::gone_all(s.let_go, s.past_len, s.ready_len, s.active_len);
-                s.edit_map.len = 0;
+                edits.len = 0;
                 s.past_len = 0;
                 s.active_len = 0;
                 s.ready_len = 0;
@@ -240,11 +269,13 @@ fn run(tape: &[u8], pool: &[f32], samples: &mut [f32], out: &mut [u8]) -> usize
             }
             // A creation; "refusals 1, 14, 15 stop it".
             Plan::Create => {
+                s.edit_map = edits;
                 let a = apply::apply(s, call, pool, samples);
                 if a.refusal == 1 {
                     return at;
                 }
                 s = a.sequencer;
+                edits = s.edit_map;
             }
         }
     }
