@@ -1,3 +1,4 @@
 pub mod Standings
 pub mod Theorem
 pub mod Cases
+pub mod Unmoved
