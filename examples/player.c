@@ -1,5 +1,5 @@
 /* Plays the tape in a file into a WAV of 32-bit float samples, channels interleaved: the skeleton of a player in C.
- * Usage: player TAPE OUT.wav
+ * Usage: player TAPE OUT.wav [POOL], where POOL has 32-bit float samples, little-endian; without it, document 01's pool.
  * It ends with 0 where the whole tape was written, with 3 where a refusal ended the tape and what came before it was
  * written, with 2 on wrong usage, and with 1 where nothing is written; all but 0 are said on standard error.
  * It asks `tape_info` how much there is, lends that much room, and needs no engine of its own. A little-endian machine. */
@@ -116,20 +116,21 @@ static int write_file(const char *path, const uint8_t *bytes, size_t length) {
 
 /* ---- the tape */
 
-/* The tape's samples; NULL where there is no memory, or they are not as many as expected. */
-static uint8_t *samples_of(const uint8_t *tape, size_t length, size_t bytes) {
+/* The tape's samples, with the pool where there is one; NULL where there is no memory, or they are not as many as expected. */
+static uint8_t *samples_of(const uint8_t *tape, size_t length, const float *pool, size_t pool_length, size_t bytes) {
     uint8_t *samples = malloc(bytes ? bytes : 1);
     if (!samples) {
         return NULL;
     }
-    if (render(tape, length, samples, bytes) != bytes) {
+    size_t count = pool ? render_with_pool(tape, length, pool, pool_length, samples, bytes) : render(tape, length, samples, bytes);
+    if (count != bytes) {
         free(samples);
         return NULL;
     }
     return samples;
 }
 
-static int play(const char *path, const uint8_t *tape, size_t length, const char *out) {
+static int play(const char *path, const uint8_t *tape, size_t length, const float *pool, size_t pool_length, const char *out) {
     uint64_t bytes, frames, channels, ended;
     double rate;
     bool one_rate;
@@ -144,7 +145,7 @@ static int play(const char *path, const uint8_t *tape, size_t length, const char
         return failed(path, "4 GB or more of samples, and this WAV has sizes of 32 bits");
     }
     uint8_t *wav = malloc(HEADER + (size_t)bytes);
-    uint8_t *samples = samples_of(tape, length, (size_t)bytes);
+    uint8_t *samples = samples_of(tape, length, pool, pool_length, (size_t)bytes);
     int status = 0;
     if (!wav || !samples) {
         status = failed(path, "not rendered: no memory, or fewer samples than expected");
@@ -166,13 +167,25 @@ static int play(const char *path, const uint8_t *tape, size_t length, const char
 }
 
 int main(int argc, char **argv) {
-    if (argc != 3) {
-        fprintf(stderr, "usage: %s TAPE OUT.wav\n", argv[0]);
+    if (argc < 3 || argc > 4) {
+        fprintf(stderr, "usage: %s TAPE OUT.wav [POOL]\n", argv[0]);
         return 2;
     }
-    size_t length = 0;
+    size_t length = 0, pool_bytes = 0;
     uint8_t *tape = read_file(argv[1], &length);
-    int status = tape ? play(argv[1], tape, length, argv[2]) : failed(argv[1], "not read");
+    /* malloc aligns for any type, so the bytes serve as floats. */
+    float *pool = argc == 4 ? (float *)read_file(argv[3], &pool_bytes) : NULL;
+    int status;
+    if (!tape) {
+        status = failed(argv[1], "not read");
+    } else if (argc == 4 && !pool) {
+        status = failed(argv[3], "not read");
+    } else if (pool_bytes % sizeof(float)) {
+        status = failed(argv[3], "no whole number of samples");
+    } else {
+        status = play(argv[1], tape, length, pool, pool_bytes / sizeof(float), argv[2]);
+    }
+    free(pool);
     free(tape);
     return status;
 }

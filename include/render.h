@@ -26,6 +26,11 @@ extern "C" {
  * (examples/player.c interleaves them). `out` needs no alignment. The stack needs about 1 MB. */
 size_t render(const uint8_t *tape, size_t tape_length, uint8_t *out, size_t out_length);
 
+/* The same with clips that read from the pool lent: `pool_length` samples, of any number, aligned as a float is. A clip's
+ * places behind the pool's end are 0.0, as those behind the clip's end are. The stack needs about 1 MB. */
+size_t render_with_pool(const uint8_t *tape, size_t tape_length, const float *pool, size_t pool_length, uint8_t *out,
+                        size_t out_length);
+
 /* What a tape comes to, without rendering it, whatever pool its clips read from:
  *   bytes     what `render` writes where there is room for all of it, which is the least room that leaves nothing out;
  *   frames    the samples of each channel among them;

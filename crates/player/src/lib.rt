@@ -4,7 +4,6 @@ mod bytes;
 ghost use mathlib.Core.Path.{_≡_};
 ghost use mathlib.Core.List.{_++_};
 ghost use lib.ListN.{length, drop};
-ghost use Rattle.tape.specs.Pool.{trailPool};
 ghost use Rattle.player.specs.Records.{playedInto, played};
 use event::StoredEdit;
 use plans::Clock;
@@ -281,12 +280,11 @@ fn run(tape: &[u8], pool: &[f32], samples: &mut [f32], out: &mut [u8]) -> usize
     }
 }
 
-// Writes the samples of a tape's ticks and blocks, with the pool of `trail`, to the front of `out` and returns how many bytes they take.
-pub fn play(tape: &[u8], out: &mut [u8]) -> usize
-    ensures { λ r. ⌜ r ≡ length (played trailPool (now (tape .entry)) (length (now (out .entry)))) ⌝ }
-    ensures { λ r. ⌜ now (out .exit) ≡ played trailPool (now (tape .entry)) (length (now (out .entry))) ++ drop r (now (out .entry)) ⌝ }
+// Writes the samples of a tape's ticks and blocks to the front of `out` and returns how many bytes they take.
+pub fn play(tape: &[u8], pool: &[f32], out: &mut [u8]) -> usize
+    ensures { λ r. ⌜ r ≡ length (played (now (pool .entry)) (now (tape .entry)) (length (now (out .entry)))) ⌝ }
+    ensures { λ r. ⌜ now (out .exit) ≡ played (now (pool .entry)) (now (tape .entry)) (length (now (out .entry))) ++ drop r (now (out .entry)) ⌝ }
 {
-    let pool = tape::pool::trail_pool();
     let mut samples = apply::silence();
-    run(tape, &pool, &mut samples, out)
+    run(tape, pool, &mut samples, out)
 }
