@@ -144,6 +144,8 @@ fn run(tape: &[u8], pool: &[f32], samples: &mut [f32], out: &mut [u8]) -> usize
                 while plans::within(i, s.active_len) {
                     let event = s.active[i];
                     if event.end_time <= step.limit {
+                        // Read again: an event that goes on is then not copied, and its end alone is looked at.
+                        let ended = s.active[i];
                         let n = s.active_len - 1;
                         let last = s.active[n];
                         s.active[i] = last;
@@ -152,7 +154,7 @@ fn run(tape: &[u8], pool: &[f32], samples: &mut [f32], out: &mut [u8]) -> usize
                         s.active_len = n;
                         let k = s.past_len;
                         if k < 256 {
-                            s.past[k] = event;
+                            s.past[k] = ended;
                             s.past_len = k + 1;
                         }
                     } else {

@@ -466,54 +466,64 @@ mul-event-4 c = let h = inside c in search needs
 element-copy-out-event : tie.Need-element-copy-out-event Inv-loop2 μ-loop2 Inv-loop4 μ-loop4 Inv-loop5 μ-loop5 Inv-loop6 μ-loop6 Inv-loop3 μ-loop3 Inv-loop7 μ-loop7 Inv-loop8 μ-loop8 Inv-loop9 μ-loop9 Inv-loop10 μ-loop10 Inv-loop12 μ-loop12 Inv-loop11 μ-loop11 Inv-loop13 μ-loop13 Inv-loop μ-loop
 element-copy-out-event c = let h = inside c in search needs
 
+mul-ended : tie.Need-mul-ended Inv-loop2 μ-loop2 Inv-loop4 μ-loop4 Inv-loop5 μ-loop5 Inv-loop6 μ-loop6 Inv-loop3 μ-loop3 Inv-loop7 μ-loop7 Inv-loop8 μ-loop8 Inv-loop9 μ-loop9 Inv-loop10 μ-loop10 Inv-loop12 μ-loop12 Inv-loop11 μ-loop11 Inv-loop13 μ-loop13 Inv-loop μ-loop
+mul-ended c = let h = inside (c .before .before .before .before) in search needs
+
+element-copy-out-ended : tie.Need-element-copy-out-ended Inv-loop2 μ-loop2 Inv-loop4 μ-loop4 Inv-loop5 μ-loop5 Inv-loop6 μ-loop6 Inv-loop3 μ-loop3 Inv-loop7 μ-loop7 Inv-loop8 μ-loop8 Inv-loop9 μ-loop9 Inv-loop10 μ-loop10 Inv-loop12 μ-loop12 Inv-loop11 μ-loop11 Inv-loop13 μ-loop13 Inv-loop μ-loop
+element-copy-out-ended c = let h = inside (c .before .before .before .before) in search needs
+
 sub-n : tie.Need-sub-n Inv-loop2 μ-loop2 Inv-loop4 μ-loop4 Inv-loop5 μ-loop5 Inv-loop6 μ-loop6 Inv-loop3 μ-loop3 Inv-loop7 μ-loop7 Inv-loop8 μ-loop8 Inv-loop9 μ-loop9 Inv-loop10 μ-loop10 Inv-loop12 μ-loop12 Inv-loop11 μ-loop11 Inv-loop13 μ-loop13 Inv-loop μ-loop
-sub-n c = let h = inside (c .before .before .before .before) in search needs
+sub-n c = let h = inside (c .before .before .before .before .before) in search needs
 
 mul-last-3 : tie.Need-mul-last-3 Inv-loop2 μ-loop2 Inv-loop4 μ-loop4 Inv-loop5 μ-loop5 Inv-loop6 μ-loop6 Inv-loop3 μ-loop3 Inv-loop7 μ-loop7 Inv-loop8 μ-loop8 Inv-loop9 μ-loop9 Inv-loop10 μ-loop10 Inv-loop12 μ-loop12 Inv-loop11 μ-loop11 Inv-loop13 μ-loop13 Inv-loop μ-loop
-mul-last-3 c = let h = inside (c .before .before .before .before) in search needs
+mul-last-3 c = let h = inside (c .before .before .before .before .before) in search needs
 
 element-copy-out-last-2 : tie.Need-element-copy-out-last-2 Inv-loop2 μ-loop2 Inv-loop4 μ-loop4 Inv-loop5 μ-loop5 Inv-loop6 μ-loop6 Inv-loop3 μ-loop3 Inv-loop7 μ-loop7 Inv-loop8 μ-loop8 Inv-loop9 μ-loop9 Inv-loop10 μ-loop10 Inv-loop12 μ-loop12 Inv-loop11 μ-loop11 Inv-loop13 μ-loop13 Inv-loop μ-loop
-element-copy-out-last-2 c = let h = inside (c .before .before .before .before) in search needs
+element-copy-out-last-2 c = let h = inside (c .before .before .before .before .before) in search needs
 
 mul-last-4 : tie.Need-mul-last-4 Inv-loop2 μ-loop2 Inv-loop4 μ-loop4 Inv-loop5 μ-loop5 Inv-loop6 μ-loop6 Inv-loop3 μ-loop3 Inv-loop7 μ-loop7 Inv-loop8 μ-loop8 Inv-loop9 μ-loop9 Inv-loop10 μ-loop10 Inv-loop12 μ-loop12 Inv-loop11 μ-loop11 Inv-loop13 μ-loop13 Inv-loop μ-loop
-mul-last-4 c = let h = inside (c .before .before .before .before .before) in search needs
+mul-last-4 c = let h = inside (c .before .before .before .before .before .before) in search needs
 
 element-set-from-last-2 : tie.Need-element-set-from-last-2 Inv-loop2 μ-loop2 Inv-loop4 μ-loop4 Inv-loop5 μ-loop5 Inv-loop6 μ-loop6 Inv-loop3 μ-loop3 Inv-loop7 μ-loop7 Inv-loop8 μ-loop8 Inv-loop9 μ-loop9 Inv-loop10 μ-loop10 Inv-loop12 μ-loop12 Inv-loop11 μ-loop11 Inv-loop13 μ-loop13 Inv-loop μ-loop
-element-set-from-last-2 c = let h = inside (c .before .before .before .before .before) in search needs
+element-set-from-last-2 c = let h = inside (c .before .before .before .before .before .before) in search needs
 
 mul-id-3 : tie.Need-mul-id-3 Inv-loop2 μ-loop2 Inv-loop4 μ-loop4 Inv-loop5 μ-loop5 Inv-loop6 μ-loop6 Inv-loop3 μ-loop3 Inv-loop7 μ-loop7 Inv-loop8 μ-loop8 Inv-loop9 μ-loop9 Inv-loop10 μ-loop10 Inv-loop12 μ-loop12 Inv-loop11 μ-loop11 Inv-loop13 μ-loop13 Inv-loop μ-loop
-mul-id-3 c = let h = inside (c .before .before .before .before .before) in search needs
+mul-id-3 c = let h = inside (c .before .before .before .before .before .before) in search needs
 
 element-copy-out-id : tie.Need-element-copy-out-id Inv-loop2 μ-loop2 Inv-loop4 μ-loop4 Inv-loop5 μ-loop5 Inv-loop6 μ-loop6 Inv-loop3 μ-loop3 Inv-loop7 μ-loop7 Inv-loop8 μ-loop8 Inv-loop9 μ-loop9 Inv-loop10 μ-loop10 Inv-loop12 μ-loop12 Inv-loop11 μ-loop11 Inv-loop13 μ-loop13 Inv-loop μ-loop
-element-copy-out-id c = let h = inside (c .before .before .before .before .before) in search needs
+element-copy-out-id c = let h = inside (c .before .before .before .before .before .before) in search needs
 
 mul-id-4 : tie.Need-mul-id-4 Inv-loop2 μ-loop2 Inv-loop4 μ-loop4 Inv-loop5 μ-loop5 Inv-loop6 μ-loop6 Inv-loop3 μ-loop3 Inv-loop7 μ-loop7 Inv-loop8 μ-loop8 Inv-loop9 μ-loop9 Inv-loop10 μ-loop10 Inv-loop12 μ-loop12 Inv-loop11 μ-loop11 Inv-loop13 μ-loop13 Inv-loop μ-loop
-mul-id-4 c = let h = inside (c .before .before .before .before .before .before) in search needs
+mul-id-4 c =
+    let c₁ = c .before .before .before .before .before .before .before in
+    let h = inside c₁ in search needs
 
 element-set-from-id-3 : tie.Need-element-set-from-id-3 Inv-loop2 μ-loop2 Inv-loop4 μ-loop4 Inv-loop5 μ-loop5 Inv-loop6 μ-loop6 Inv-loop3 μ-loop3 Inv-loop7 μ-loop7 Inv-loop8 μ-loop8 Inv-loop9 μ-loop9 Inv-loop10 μ-loop10 Inv-loop12 μ-loop12 Inv-loop11 μ-loop11 Inv-loop13 μ-loop13 Inv-loop μ-loop
-element-set-from-id-3 c = let h = inside (c .before .before .before .before .before .before) in search needs
+element-set-from-id-3 c =
+    let c₁ = c .before .before .before .before .before .before .before in
+    let h = inside c₁ in search needs
 
 loop7-less : tie.Need-loop7-less Inv-loop2 μ-loop2 Inv-loop4 μ-loop4 Inv-loop5 μ-loop5 Inv-loop6 μ-loop6 Inv-loop3 μ-loop3 Inv-loop7 μ-loop7 Inv-loop8 μ-loop8 Inv-loop9 μ-loop9 Inv-loop10 μ-loop10 Inv-loop12 μ-loop12 Inv-loop11 μ-loop11 Inv-loop13 μ-loop13 Inv-loop μ-loop
 loop7-less c =
-    let c₁ = c .before .before .before .before .before .before .before in
+    let c₁ = c .before .before .before .before .before .before .before .before in
     let h = inside c₁ in omega arith
 
 loop7-again : tie.Need-loop7-again Inv-loop2 μ-loop2 Inv-loop4 μ-loop4 Inv-loop5 μ-loop5 Inv-loop6 μ-loop6 Inv-loop3 μ-loop3 Inv-loop7 μ-loop7 Inv-loop8 μ-loop8 Inv-loop9 μ-loop9 Inv-loop10 μ-loop10 Inv-loop12 μ-loop12 Inv-loop11 μ-loop11 Inv-loop13 μ-loop13 Inv-loop μ-loop
 loop7-again c =
-    let c₁ = c .before .before .before .before .before .before .before in
+    let c₁ = c .before .before .before .before .before .before .before .before in
     let h = inside c₁ in
-    finishing-room _ _ _ _ (h .0) (h .1) (c .before .before .before .if8 .taken) (c .if9 .taken) (c₁ .before .before .loop7 .inv)
+    finishing-room _ _ _ _ (h .0) (h .1) (c .before .before .before .before .if8 .taken) (c .if9 .taken) (c₁ .before .before .loop7 .inv)
 
 loop7-less-2 : tie.Need-loop7-less-2 Inv-loop2 μ-loop2 Inv-loop4 μ-loop4 Inv-loop5 μ-loop5 Inv-loop6 μ-loop6 Inv-loop3 μ-loop3 Inv-loop7 μ-loop7 Inv-loop8 μ-loop8 Inv-loop9 μ-loop9 Inv-loop10 μ-loop10 Inv-loop12 μ-loop12 Inv-loop11 μ-loop11 Inv-loop13 μ-loop13 Inv-loop μ-loop
 loop7-less-2 c =
-    let c₁ = c .before .before .before .before .before .before .before in
+    let c₁ = c .before .before .before .before .before .before .before .before in
     let h = inside c₁ in omega arith
 
 loop7-again-2 : tie.Need-loop7-again-2 Inv-loop2 μ-loop2 Inv-loop4 μ-loop4 Inv-loop5 μ-loop5 Inv-loop6 μ-loop6 Inv-loop3 μ-loop3 Inv-loop7 μ-loop7 Inv-loop8 μ-loop8 Inv-loop9 μ-loop9 Inv-loop10 μ-loop10 Inv-loop12 μ-loop12 Inv-loop11 μ-loop11 Inv-loop13 μ-loop13 Inv-loop μ-loop
 loop7-again-2 c =
-    let c₁ = c .before .before .before .before .before .before .before in
+    let c₁ = c .before .before .before .before .before .before .before .before in
     let h = inside c₁ in
-    finishing-full _ _ _ _ (h .0) (h .1) (c .before .before .before .if8 .taken) (c .if9 .left) (c₁ .before .before .loop7 .inv)
+    finishing-full _ _ _ _ (h .0) (h .1) (c .before .before .before .before .if8 .taken) (c .if9 .left) (c₁ .before .before .loop7 .inv)
 
 add-i : tie.Need-add-i Inv-loop2 μ-loop2 Inv-loop4 μ-loop4 Inv-loop5 μ-loop5 Inv-loop6 μ-loop6 Inv-loop3 μ-loop3 Inv-loop7 μ-loop7 Inv-loop8 μ-loop8 Inv-loop9 μ-loop9 Inv-loop10 μ-loop10 Inv-loop12 μ-loop12 Inv-loop11 μ-loop11 Inv-loop13 μ-loop13 Inv-loop μ-loop
 add-i c = let h = inside (c .before .before .before .before) in search needs
@@ -532,8 +542,8 @@ loop8-holds c =
     let k = c .cleared-places .result in
     (passing-start (c .before .least .ensures) (take-replicate k 64 zeroᶠ (omega (arith, c .cleared-places .ensures)) ∙ ap (λ (n : ℕ). replicate n zeroᶠ) (c .cleared-places .ensures)), refl)
 
-mul-event-6 : tie.Need-mul-event-6 Inv-loop2 μ-loop2 Inv-loop4 μ-loop4 Inv-loop5 μ-loop5 Inv-loop6 μ-loop6 Inv-loop3 μ-loop3 Inv-loop7 μ-loop7 Inv-loop8 μ-loop8 Inv-loop9 μ-loop9 Inv-loop10 μ-loop10 Inv-loop12 μ-loop12 Inv-loop11 μ-loop11 Inv-loop13 μ-loop13 Inv-loop μ-loop
-mul-event-6 c = omega (arith, c .before .loop8 .inv .0 .count, c .loop8-test .taken)
+mul-event-5 : tie.Need-mul-event-5 Inv-loop2 μ-loop2 Inv-loop4 μ-loop4 Inv-loop5 μ-loop5 Inv-loop6 μ-loop6 Inv-loop3 μ-loop3 Inv-loop7 μ-loop7 Inv-loop8 μ-loop8 Inv-loop9 μ-loop9 Inv-loop10 μ-loop10 Inv-loop12 μ-loop12 Inv-loop11 μ-loop11 Inv-loop13 μ-loop13 Inv-loop μ-loop
+mul-event-5 c = omega (arith, c .before .loop8 .inv .0 .count, c .loop8-test .taken)
 
 element-copy-out-event-2 : tie.Need-element-copy-out-event-2 Inv-loop2 μ-loop2 Inv-loop4 μ-loop4 Inv-loop5 μ-loop5 Inv-loop6 μ-loop6 Inv-loop3 μ-loop3 Inv-loop7 μ-loop7 Inv-loop8 μ-loop8 Inv-loop9 μ-loop9 Inv-loop10 μ-loop10 Inv-loop12 μ-loop12 Inv-loop11 μ-loop11 Inv-loop13 μ-loop13 Inv-loop μ-loop
 element-copy-out-event-2 c = omega (arith, c .before .loop8 .inv .0 .count, c .loop8-test .taken)
@@ -685,8 +695,8 @@ sought-id c =
     (λ w. ((λ h. sought noId (isId k) n (s .«active_map») (l .i) (foundId (indexOf s) k) h (eq-eqb _ _ (w .4 .taken)) (l .inv .1)), (λ h. absurd (omega (arith, w .0 .taken, h)))))
     (c .loop9-test .came)
 
-mul-event-7 : tie.Need-mul-event-7 Inv-loop2 μ-loop2 Inv-loop4 μ-loop4 Inv-loop5 μ-loop5 Inv-loop6 μ-loop6 Inv-loop3 μ-loop3 Inv-loop7 μ-loop7 Inv-loop8 μ-loop8 Inv-loop9 μ-loop9 Inv-loop10 μ-loop10 Inv-loop12 μ-loop12 Inv-loop11 μ-loop11 Inv-loop13 μ-loop13 Inv-loop μ-loop
-mul-event-7 c =
+mul-event-6 : tie.Need-mul-event-6 Inv-loop2 μ-loop2 Inv-loop4 μ-loop4 Inv-loop5 μ-loop5 Inv-loop6 μ-loop6 Inv-loop3 μ-loop3 Inv-loop7 μ-loop7 Inv-loop8 μ-loop8 Inv-loop9 μ-loop9 Inv-loop10 μ-loop10 Inv-loop12 μ-loop12 Inv-loop11 μ-loop11 Inv-loop13 μ-loop13 Inv-loop μ-loop
+mul-event-6 c =
     let h : c .before .before .loop9 .i < 256 = omega (arith, c .if11 .taken, c .before .before .loop9 .inv .0) in
     search needs
 
@@ -695,13 +705,13 @@ element-copy-out-event-3 c =
     let h : c .before .before .loop9 .i < 256 = omega (arith, c .if11 .taken, c .before .before .loop9 .inv .0) in
     search needs
 
-mul-event-8 : tie.Need-mul-event-8 Inv-loop2 μ-loop2 Inv-loop4 μ-loop4 Inv-loop5 μ-loop5 Inv-loop6 μ-loop6 Inv-loop3 μ-loop3 Inv-loop7 μ-loop7 Inv-loop8 μ-loop8 Inv-loop9 μ-loop9 Inv-loop10 μ-loop10 Inv-loop12 μ-loop12 Inv-loop11 μ-loop11 Inv-loop13 μ-loop13 Inv-loop μ-loop
-mul-event-8 c =
+mul-event-7 : tie.Need-mul-event-7 Inv-loop2 μ-loop2 Inv-loop4 μ-loop4 Inv-loop5 μ-loop5 Inv-loop6 μ-loop6 Inv-loop3 μ-loop3 Inv-loop7 μ-loop7 Inv-loop8 μ-loop8 Inv-loop9 μ-loop9 Inv-loop10 μ-loop10 Inv-loop12 μ-loop12 Inv-loop11 μ-loop11 Inv-loop13 μ-loop13 Inv-loop μ-loop
+mul-event-7 c =
     let h : c .before .before .before .before .loop9 .i < 256 = omega (arith, c .before .before .if11 .taken, c .before .before .before .before .loop9 .inv .0) in
     search needs
 
-element-set-from-event-5 : tie.Need-element-set-from-event-5 Inv-loop2 μ-loop2 Inv-loop4 μ-loop4 Inv-loop5 μ-loop5 Inv-loop6 μ-loop6 Inv-loop3 μ-loop3 Inv-loop7 μ-loop7 Inv-loop8 μ-loop8 Inv-loop9 μ-loop9 Inv-loop10 μ-loop10 Inv-loop12 μ-loop12 Inv-loop11 μ-loop11 Inv-loop13 μ-loop13 Inv-loop μ-loop
-element-set-from-event-5 c =
+element-set-from-event-4 : tie.Need-element-set-from-event-4 Inv-loop2 μ-loop2 Inv-loop4 μ-loop4 Inv-loop5 μ-loop5 Inv-loop6 μ-loop6 Inv-loop3 μ-loop3 Inv-loop7 μ-loop7 Inv-loop8 μ-loop8 Inv-loop9 μ-loop9 Inv-loop10 μ-loop10 Inv-loop12 μ-loop12 Inv-loop11 μ-loop11 Inv-loop13 μ-loop13 Inv-loop μ-loop
+element-set-from-event-4 c =
     let h : c .before .before .before .before .loop9 .i < 256 = omega (arith, c .before .before .if11 .taken, c .before .before .before .before .loop9 .inv .0) in
     search needs
 
@@ -946,14 +956,14 @@ add-edits c = search needs
 element-copy-out-event-4 : tie.Need-element-copy-out-event-4 Inv-loop2 μ-loop2 Inv-loop4 μ-loop4 Inv-loop5 μ-loop5 Inv-loop6 μ-loop6 Inv-loop3 μ-loop3 Inv-loop7 μ-loop7 Inv-loop8 μ-loop8 Inv-loop9 μ-loop9 Inv-loop10 μ-loop10 Inv-loop12 μ-loop12 Inv-loop11 μ-loop11 Inv-loop13 μ-loop13 Inv-loop μ-loop
 element-copy-out-event-4 c = search needs
 
-mul-event-9 : tie.Need-mul-event-9 Inv-loop2 μ-loop2 Inv-loop4 μ-loop4 Inv-loop5 μ-loop5 Inv-loop6 μ-loop6 Inv-loop3 μ-loop3 Inv-loop7 μ-loop7 Inv-loop8 μ-loop8 Inv-loop9 μ-loop9 Inv-loop10 μ-loop10 Inv-loop12 μ-loop12 Inv-loop11 μ-loop11 Inv-loop13 μ-loop13 Inv-loop μ-loop
-mul-event-9 c = search needs
+mul-event-8 : tie.Need-mul-event-8 Inv-loop2 μ-loop2 Inv-loop4 μ-loop4 Inv-loop5 μ-loop5 Inv-loop6 μ-loop6 Inv-loop3 μ-loop3 Inv-loop7 μ-loop7 Inv-loop8 μ-loop8 Inv-loop9 μ-loop9 Inv-loop10 μ-loop10 Inv-loop12 μ-loop12 Inv-loop11 μ-loop11 Inv-loop13 μ-loop13 Inv-loop μ-loop
+mul-event-8 c = search needs
 
 element-copy-out-event-5 : tie.Need-element-copy-out-event-5 Inv-loop2 μ-loop2 Inv-loop4 μ-loop4 Inv-loop5 μ-loop5 Inv-loop6 μ-loop6 Inv-loop3 μ-loop3 Inv-loop7 μ-loop7 Inv-loop8 μ-loop8 Inv-loop9 μ-loop9 Inv-loop10 μ-loop10 Inv-loop12 μ-loop12 Inv-loop11 μ-loop11 Inv-loop13 μ-loop13 Inv-loop μ-loop
 element-copy-out-event-5 c = search needs
 
-mul-event-10 : tie.Need-mul-event-10 Inv-loop2 μ-loop2 Inv-loop4 μ-loop4 Inv-loop5 μ-loop5 Inv-loop6 μ-loop6 Inv-loop3 μ-loop3 Inv-loop7 μ-loop7 Inv-loop8 μ-loop8 Inv-loop9 μ-loop9 Inv-loop10 μ-loop10 Inv-loop12 μ-loop12 Inv-loop11 μ-loop11 Inv-loop13 μ-loop13 Inv-loop μ-loop
-mul-event-10 c = search needs
+mul-event-9 : tie.Need-mul-event-9 Inv-loop2 μ-loop2 Inv-loop4 μ-loop4 Inv-loop5 μ-loop5 Inv-loop6 μ-loop6 Inv-loop3 μ-loop3 Inv-loop7 μ-loop7 Inv-loop8 μ-loop8 Inv-loop9 μ-loop9 Inv-loop10 μ-loop10 Inv-loop12 μ-loop12 Inv-loop11 μ-loop11 Inv-loop13 μ-loop13 Inv-loop μ-loop
+mul-event-9 c = search needs
 
 element-copy-out-event-6 : tie.Need-element-copy-out-event-6 Inv-loop2 μ-loop2 Inv-loop4 μ-loop4 Inv-loop5 μ-loop5 Inv-loop6 μ-loop6 Inv-loop3 μ-loop3 Inv-loop7 μ-loop7 Inv-loop8 μ-loop8 Inv-loop9 μ-loop9 Inv-loop10 μ-loop10 Inv-loop12 μ-loop12 Inv-loop11 μ-loop11 Inv-loop13 μ-loop13 Inv-loop μ-loop
 element-copy-out-event-6 c = search needs
@@ -979,11 +989,11 @@ element-set-from-parent-2 c = search needs
 loop12-less : tie.Need-loop12-less Inv-loop2 μ-loop2 Inv-loop4 μ-loop4 Inv-loop5 μ-loop5 Inv-loop6 μ-loop6 Inv-loop3 μ-loop3 Inv-loop7 μ-loop7 Inv-loop8 μ-loop8 Inv-loop9 μ-loop9 Inv-loop10 μ-loop10 Inv-loop12 μ-loop12 Inv-loop11 μ-loop11 Inv-loop13 μ-loop13 Inv-loop μ-loop
 loop12-less c = search needs
 
-mul-event-11 : tie.Need-mul-event-11 Inv-loop2 μ-loop2 Inv-loop4 μ-loop4 Inv-loop5 μ-loop5 Inv-loop6 μ-loop6 Inv-loop3 μ-loop3 Inv-loop7 μ-loop7 Inv-loop8 μ-loop8 Inv-loop9 μ-loop9 Inv-loop10 μ-loop10 Inv-loop12 μ-loop12 Inv-loop11 μ-loop11 Inv-loop13 μ-loop13 Inv-loop μ-loop
-mul-event-11 c = search needs
+mul-event-10 : tie.Need-mul-event-10 Inv-loop2 μ-loop2 Inv-loop4 μ-loop4 Inv-loop5 μ-loop5 Inv-loop6 μ-loop6 Inv-loop3 μ-loop3 Inv-loop7 μ-loop7 Inv-loop8 μ-loop8 Inv-loop9 μ-loop9 Inv-loop10 μ-loop10 Inv-loop12 μ-loop12 Inv-loop11 μ-loop11 Inv-loop13 μ-loop13 Inv-loop μ-loop
+mul-event-10 c = search needs
 
-element-set-from-event-6 : tie.Need-element-set-from-event-6 Inv-loop2 μ-loop2 Inv-loop4 μ-loop4 Inv-loop5 μ-loop5 Inv-loop6 μ-loop6 Inv-loop3 μ-loop3 Inv-loop7 μ-loop7 Inv-loop8 μ-loop8 Inv-loop9 μ-loop9 Inv-loop10 μ-loop10 Inv-loop12 μ-loop12 Inv-loop11 μ-loop11 Inv-loop13 μ-loop13 Inv-loop μ-loop
-element-set-from-event-6 c = search needs
+element-set-from-event-5 : tie.Need-element-set-from-event-5 Inv-loop2 μ-loop2 Inv-loop4 μ-loop4 Inv-loop5 μ-loop5 Inv-loop6 μ-loop6 Inv-loop3 μ-loop3 Inv-loop7 μ-loop7 Inv-loop8 μ-loop8 Inv-loop9 μ-loop9 Inv-loop10 μ-loop10 Inv-loop12 μ-loop12 Inv-loop11 μ-loop11 Inv-loop13 μ-loop13 Inv-loop μ-loop
+element-set-from-event-5 c = search needs
 
 add-s-5 : tie.Need-add-s-5 Inv-loop2 μ-loop2 Inv-loop4 μ-loop4 Inv-loop5 μ-loop5 Inv-loop6 μ-loop6 Inv-loop3 μ-loop3 Inv-loop7 μ-loop7 Inv-loop8 μ-loop8 Inv-loop9 μ-loop9 Inv-loop10 μ-loop10 Inv-loop12 μ-loop12 Inv-loop11 μ-loop11 Inv-loop13 μ-loop13 Inv-loop μ-loop
 add-s-5 c = search needs
@@ -994,17 +1004,17 @@ loop11-less c = search needs
 loop11-less-2 : tie.Need-loop11-less-2 Inv-loop2 μ-loop2 Inv-loop4 μ-loop4 Inv-loop5 μ-loop5 Inv-loop6 μ-loop6 Inv-loop3 μ-loop3 Inv-loop7 μ-loop7 Inv-loop8 μ-loop8 Inv-loop9 μ-loop9 Inv-loop10 μ-loop10 Inv-loop12 μ-loop12 Inv-loop11 μ-loop11 Inv-loop13 μ-loop13 Inv-loop μ-loop
 loop11-less-2 c = search needs
 
-mul-event-12 : tie.Need-mul-event-12 Inv-loop2 μ-loop2 Inv-loop4 μ-loop4 Inv-loop5 μ-loop5 Inv-loop6 μ-loop6 Inv-loop3 μ-loop3 Inv-loop7 μ-loop7 Inv-loop8 μ-loop8 Inv-loop9 μ-loop9 Inv-loop10 μ-loop10 Inv-loop12 μ-loop12 Inv-loop11 μ-loop11 Inv-loop13 μ-loop13 Inv-loop μ-loop
-mul-event-12 c = search needs
+mul-event-11 : tie.Need-mul-event-11 Inv-loop2 μ-loop2 Inv-loop4 μ-loop4 Inv-loop5 μ-loop5 Inv-loop6 μ-loop6 Inv-loop3 μ-loop3 Inv-loop7 μ-loop7 Inv-loop8 μ-loop8 Inv-loop9 μ-loop9 Inv-loop10 μ-loop10 Inv-loop12 μ-loop12 Inv-loop11 μ-loop11 Inv-loop13 μ-loop13 Inv-loop μ-loop
+mul-event-11 c = search needs
 
 element-copy-out-event-7 : tie.Need-element-copy-out-event-7 Inv-loop2 μ-loop2 Inv-loop4 μ-loop4 Inv-loop5 μ-loop5 Inv-loop6 μ-loop6 Inv-loop3 μ-loop3 Inv-loop7 μ-loop7 Inv-loop8 μ-loop8 Inv-loop9 μ-loop9 Inv-loop10 μ-loop10 Inv-loop12 μ-loop12 Inv-loop11 μ-loop11 Inv-loop13 μ-loop13 Inv-loop μ-loop
 element-copy-out-event-7 c = search needs
 
-mul-event-13 : tie.Need-mul-event-13 Inv-loop2 μ-loop2 Inv-loop4 μ-loop4 Inv-loop5 μ-loop5 Inv-loop6 μ-loop6 Inv-loop3 μ-loop3 Inv-loop7 μ-loop7 Inv-loop8 μ-loop8 Inv-loop9 μ-loop9 Inv-loop10 μ-loop10 Inv-loop12 μ-loop12 Inv-loop11 μ-loop11 Inv-loop13 μ-loop13 Inv-loop μ-loop
-mul-event-13 c = search needs
+mul-event-12 : tie.Need-mul-event-12 Inv-loop2 μ-loop2 Inv-loop4 μ-loop4 Inv-loop5 μ-loop5 Inv-loop6 μ-loop6 Inv-loop3 μ-loop3 Inv-loop7 μ-loop7 Inv-loop8 μ-loop8 Inv-loop9 μ-loop9 Inv-loop10 μ-loop10 Inv-loop12 μ-loop12 Inv-loop11 μ-loop11 Inv-loop13 μ-loop13 Inv-loop μ-loop
+mul-event-12 c = search needs
 
-element-set-from-event-7 : tie.Need-element-set-from-event-7 Inv-loop2 μ-loop2 Inv-loop4 μ-loop4 Inv-loop5 μ-loop5 Inv-loop6 μ-loop6 Inv-loop3 μ-loop3 Inv-loop7 μ-loop7 Inv-loop8 μ-loop8 Inv-loop9 μ-loop9 Inv-loop10 μ-loop10 Inv-loop12 μ-loop12 Inv-loop11 μ-loop11 Inv-loop13 μ-loop13 Inv-loop μ-loop
-element-set-from-event-7 c = search needs
+element-set-from-event-6 : tie.Need-element-set-from-event-6 Inv-loop2 μ-loop2 Inv-loop4 μ-loop4 Inv-loop5 μ-loop5 Inv-loop6 μ-loop6 Inv-loop3 μ-loop3 Inv-loop7 μ-loop7 Inv-loop8 μ-loop8 Inv-loop9 μ-loop9 Inv-loop10 μ-loop10 Inv-loop12 μ-loop12 Inv-loop11 μ-loop11 Inv-loop13 μ-loop13 Inv-loop μ-loop
+element-set-from-event-6 c = search needs
 
 add-k-3 : tie.Need-add-k-3 Inv-loop2 μ-loop2 Inv-loop4 μ-loop4 Inv-loop5 μ-loop5 Inv-loop6 μ-loop6 Inv-loop3 μ-loop3 Inv-loop7 μ-loop7 Inv-loop8 μ-loop8 Inv-loop9 μ-loop9 Inv-loop10 μ-loop10 Inv-loop12 μ-loop12 Inv-loop11 μ-loop11 Inv-loop13 μ-loop13 Inv-loop μ-loop
 add-k-3 c = search needs
@@ -1030,20 +1040,20 @@ run-spec =
     (λ c. search needs) (λ c. search needs) (λ c κs. search needs) mul-child element-copy-out-child (λ c κs. search needs)
     (λ c. search needs) (λ c. search needs) loop6-less loop6-again (λ c. search needs) (λ c. search needs) (λ c. search needs)
     (λ c. search needs) (λ c. search needs) (λ c. search needs) (λ c. search needs) loop3-less loop3-again loop3-less-2 loop3-again-2
-    loop7-holds (λ c κs. search needs) mul-event-4 element-copy-out-event sub-n mul-last-3 element-copy-out-last-2 mul-last-4
-    element-set-from-last-2 mul-id-3 element-copy-out-id mul-id-4 element-set-from-id-3 (λ c. search needs) (λ c. search needs)
-    (λ c. search needs) loop7-less loop7-again loop7-less-2 loop7-again-2 add-i loop7-less-3 loop7-again-3 (λ c κs. search needs)
-    (λ c κs. search needs) loop8-holds mul-event-6 element-copy-out-event-2 (λ c. search needs) (λ c. search needs) part-mix-end
-    (λ c κs. search needs) mul-s way-write-given-s mul-s-2 way-write-given-s-2 (λ c. search needs) (λ c. search needs) loop8-again
-    (λ c. search needs) (λ c. search needs) part-write-end (λ c κs. search needs) put-channels-requires mul-at mul-at-2 add-at loop-less-4
-    loop-again-4 (λ c. search needs) (λ c κs. search needs) loop9-holds mul-x element-copy-out-x add-i-2 loop9-less loop9-again mul-event-7
-    element-copy-out-event-3 (λ c κs. search needs) mul-event-8 element-set-from-event-5 loop-less-5 loop-again-5 (λ c κs. search needs)
-    loop10-holds mul-stored-3 element-copy-out-stored-3 add-j-3 loop10-less loop10-again mul-new element-set-from-new loop-less-6
-    loop-again-6 mul-new-2 element-set-from-new-2 add-edits loop-less-7 loop-again-7 loop-less-8 loop-again-8 loop-less-9 loop-again-9
-    (λ c. search needs) (λ c κs. search needs) (λ c κs. search needs) loop-less-10 loop-again-10 (λ c. search needs) (λ c κs. search needs)
-    (λ c κs. search needs) add-held loop11-holds element-copy-out-event-4 mul-event-9 element-copy-out-event-5 mul-event-10
-    element-copy-out-event-6 add-k-2 loop12-holds sub-p-2 mul-parent-3 element-copy-out-parent-2 (λ c κs. search needs) mul-parent-4
-    element-set-from-parent-2 loop12-less loop12-again mul-event-11 element-set-from-event-6 add-s-5 loop11-less loop11-again loop11-less-2
-    loop11-again-2 (λ c κs. search needs) loop13-holds mul-event-12 element-copy-out-event-7 (λ c κs. search needs) mul-event-13
-    element-set-from-event-7 add-k-3 loop13-less loop13-again (λ c κs. search needs) loop-less-11 loop-again-11 (λ c. search needs)
-    (λ c κs. search needs) same-length-5 same-length-6 returns-3 loop-less-12 loop-again-12)
+    loop7-holds (λ c κs. search needs) mul-event-4 element-copy-out-event mul-ended element-copy-out-ended sub-n mul-last-3
+    element-copy-out-last-2 mul-last-4 element-set-from-last-2 mul-id-3 element-copy-out-id mul-id-4 element-set-from-id-3
+    (λ c. search needs) (λ c. search needs) (λ c. search needs) loop7-less loop7-again loop7-less-2 loop7-again-2 add-i loop7-less-3
+    loop7-again-3 (λ c κs. search needs) (λ c κs. search needs) loop8-holds mul-event-5 element-copy-out-event-2 (λ c. search needs)
+    (λ c. search needs) part-mix-end (λ c κs. search needs) mul-s way-write-given-s mul-s-2 way-write-given-s-2 (λ c. search needs)
+    (λ c. search needs) loop8-again (λ c. search needs) (λ c. search needs) part-write-end (λ c κs. search needs) put-channels-requires
+    mul-at mul-at-2 add-at loop-less-4 loop-again-4 (λ c. search needs) (λ c κs. search needs) loop9-holds mul-x element-copy-out-x add-i-2
+    loop9-less loop9-again mul-event-6 element-copy-out-event-3 (λ c κs. search needs) mul-event-7 element-set-from-event-4 loop-less-5
+    loop-again-5 (λ c κs. search needs) loop10-holds mul-stored-3 element-copy-out-stored-3 add-j-3 loop10-less loop10-again mul-new
+    element-set-from-new loop-less-6 loop-again-6 mul-new-2 element-set-from-new-2 add-edits loop-less-7 loop-again-7 loop-less-8
+    loop-again-8 loop-less-9 loop-again-9 (λ c. search needs) (λ c κs. search needs) (λ c κs. search needs) loop-less-10 loop-again-10
+    (λ c. search needs) (λ c κs. search needs) (λ c κs. search needs) add-held loop11-holds element-copy-out-event-4 mul-event-8
+    element-copy-out-event-5 mul-event-9 element-copy-out-event-6 add-k-2 loop12-holds sub-p-2 mul-parent-3 element-copy-out-parent-2
+    (λ c κs. search needs) mul-parent-4 element-set-from-parent-2 loop12-less loop12-again mul-event-10 element-set-from-event-5 add-s-5
+    loop11-less loop11-again loop11-less-2 loop11-again-2 (λ c κs. search needs) loop13-holds mul-event-11 element-copy-out-event-7
+    (λ c κs. search needs) mul-event-12 element-set-from-event-6 add-k-3 loop13-less loop13-again (λ c κs. search needs) loop-less-11
+    loop-again-11 (λ c. search needs) (λ c κs. search needs) same-length-5 same-length-6 returns-3 loop-less-12 loop-again-12)
