@@ -1,5 +1,5 @@
+-- `tape_writer::write` meets its contract. Assumes nothing.
 use mathlib.Core.Path.{_≡_, sym, ap, _∙_, subst}
-use mathlib.Core.List.{List}
 use Prim.Native.Nat.{ℕ, _+_, _-_, _≤_, _<_}
 use native.Mathlib.Omega.{arith}
 use lib.ListN.{length}
@@ -21,7 +21,12 @@ returns-2 : tie.Need-returns-2
 returns-2 c = let r = refused-19 _ _ _ (sym (c .before .before .before .is-undefined .ensures) ∙ c .before .before .if1 .left) (past-end _ _ _ (c .if2 .taken)) in (sym (r .0), sym (r .1))
 
 returns-3 : tie.Need-returns-3
-returns-3 c = let a = c .before .before .before .before .before .before .args in let k : length (a .buf .now) - a .at < _ = subst (λ (n : ℕ). length (a .buf .now) - a .at < n) (c .before .before .size-of .ensures) (c .if3 .taken) in let r = refused-19 _ _ _ (sym (c .before .before .before .before .is-undefined .ensures) ∙ c .before .before .before .if1 .left) (short-rest _ _ _ (c .before .if2 .left) k) in (sym (r .0), sym (r .1))
+returns-3 c =
+    let n = c .before .before in
+    let a = n .before .before .before .before .args in
+    let k : length (a .buf .now) - a .at < _ = subst (λ (m : ℕ). length (a .buf .now) - a .at < m) (n .size-of .ensures) (c .if3 .taken) in
+    let r = refused-19 _ _ _ (sym (n .before .before .is-undefined .ensures) ∙ n .before .if1 .left) (short-rest _ _ _ (c .before .if2 .left) k) in
+    (sym (r .0), sym (r .1))
 
 parts-of-requires : tie.Need-parts-of-requires
 parts-of-requires c κs = kind-known _ _ (sym (c .before .before .before .before .is-undefined .ensures) ∙ c .before .before .before .if1 .left)
