@@ -1,6 +1,7 @@
 // The pool that clips read, from a file: a WAV of one channel of 32-bit floats, or such samples and nothing else. For programs: of what a call of C's reads no contract can speak, so `load` promises no
 // more than a bound. Where the samples stand, how many there are and what ends them is decided by the functions above it, by the definitions of specs/Pools.antt.
 ghost use mathlib.Core.Path.{_≡_};
+ghost use Prim.Native.Nat.{_≤_};
 ghost use lib.ListN.{length};
 ghost use Rattle.pool_file.specs.Pools.{isOption, monoFloat, knownBy, placeOf, nowhere as noPlace};
 use tape::fields;
