@@ -5,7 +5,7 @@ use mathlib.Core.Path.{_≡_, refl, sym, ap, _∙_, subst}
 use Prim.Native.Nat.{ℕ, zero, suc, _+_, _-_, _*_, _%_, _^_, _≤_, _<_, min}
 use native.Mathlib.Omega.{arith}
 use native.Mathlib.Decide.{decLt}
-use borrow.Author.Tests.{lt-ltb, le-ltb, le-leb, ltb-true, leb-true}
+use borrow.Author.Tests.{lt-ltb, le-ltb, le-leb, lt-leb, ltb-true, leb-true}
 use lib.Dec.{ltb, leb}
 use lib.Ieee.{Float}
 use lib.ListN.{getD, set, take, replicate}
@@ -23,12 +23,14 @@ use Rattle.floats.specs.Arithmetic.{_<ᶠ_, zeroᶠ, -∞}
 use Rattle.ledger.specs.TickSamples.{afterTick}
 use Rattle.ledger.specs.BlockSamples.{firstPlace, endPlace, afterBlock}
 use Rattle.lists.specs.declared.EditMap.{EditMap}
+use Rattle.lists.specs.declared.Found.{Found}
 use Rattle.lists.specs.declared.Found.the-variants.{At, Nothing}
 use Rattle.lists.specs.Search.{shift}
 use Rattle.lists.specs.Index.{foundId, isId, noId}
 use Rattle.lists.specs.Rounds.{Seeking, seeking-start}
 use Rattle.lists.specs.Edits.{noEdit, isEdit, placed, foundAt, storedAt, removedAt, foundEdit, stored, removed}
 use Rattle.ready.specs.Sift.{child}
+use Rattle.refusals.specs.Refusals.{roomless, noRoom}
 use Rattle.sequencer.specs.declared.Sequencer.{Sequencer}
 use Rattle.sequencer.specs.Parts.{withReady, withActive, withPast, withEdits, withTimes, withRate, withNext, withLetGo, withSounding}
 use Rattle.sequencer.specs.Moves.{pushedReady, poppedReady, pushedActive, readyToActive, activeToPast, allToReady}
@@ -198,6 +200,34 @@ module _ (s : Sequencer) (m : EditMap) (k : EventId) (d : Edit) (none : foundId 
   pub stored-nowhere : Nothing ≡ placed m k → 256 ≤ m .len → withEdits s m ≡ changed (withEdits s m) k d .sequencer
   unfolding stored
   stored-nowhere p l = stored-in (sym (simp (le-ltb (m .len) 256 l)) ∙ ap (storedAt m (record { id = k; edit = d })) p)
+
+  -- and its refusal: 9 only where it has neither a place nor room
+  refusal-in : {b : Bool} → roomless Nothing false (foundEdit m k) (m .len) ≡ b
+      → _≡_ {A = ℕ} (cond (noRoom (foundId (indexOf (withEdits s m)) k) m (s .«active_threshold») k (d .«end_time»)) 9 0) (cond b 9 0)
+  unfolding noRoom
+  refusal-in g = rw (none, late) (ap (λ (b : Bool). cond b 9 0) g)
+
+  pub accepted-at : {j : ℕ} → At j ≡ placed m k → _≡_ {A = ℕ} (cond (noRoom (foundId (indexOf (withEdits s m)) k) m (s .«active_threshold») k (d .«end_time»)) 9 0) 0
+  unfolding roomless foundEdit
+  accepted-at p = refusal-in (sym (ap (λ (f : Found). roomless Nothing false (foundAt m f) (m .len)) p))
+
+  pub accepted-last : Nothing ≡ placed m k → m .len < 256 → _≡_ {A = ℕ} (cond (noRoom (foundId (indexOf (withEdits s m)) k) m (s .«active_threshold») k (d .«end_time»)) 9 0) 0
+  unfolding roomless foundEdit
+  accepted-last p l = refusal-in (sym (ap (λ (f : Found). roomless Nothing false (foundAt m f) (m .len)) p) ∙ lt-leb 256 (m .len) l)
+
+  pub refused-nowhere : Nothing ≡ placed m k → 256 ≤ m .len → _≡_ {A = ℕ} (cond (noRoom (foundId (indexOf (withEdits s m)) k) m (s .«active_threshold») k (d .«end_time»)) 9 0) 9
+  unfolding roomless foundEdit
+  refused-nowhere p l = refusal-in (sym (ap (λ (f : Found). roomless Nothing false (foundAt m f) (m .len)) p) ∙ le-leb 256 (m .len) l)
+
+-- an edit of an event that sounds, or one that is past, is accepted
+module _ (s : Sequencer) (k : EventId) (end : Float) where
+  pub accepted-active : {i : ℕ} → foundId (indexOf s) k ≡ At i → _≡_ {A = ℕ} (cond (noRoom (foundId (indexOf s) k) (s .«edit_map») (s .«active_threshold») k end) 9 0) 0
+  unfolding noRoom roomless
+  accepted-active h = rw h
+
+  pub accepted-past : foundId (indexOf s) k ≡ Nothing → (end <ᶠ s .«active_threshold») ≡ true → _≡_ {A = ℕ} (cond (noRoom (foundId (indexOf s) k) (s .«edit_map») (s .«active_threshold») k end) 9 0) 0
+  unfolding noRoom roomless
+  accepted-past h g = rw (h, g)
 
 pub cleared : (s : Sequencer) {l : ℕ} {θ : Float} → l ≡ allGone (s .«let_go») (s .«past_len») (s .«ready_len») (s .«active_len») → θ ≡ -∞ → s .mode ≡ None
     → withTimes (emptiedLists s l) zeroᶠ θ ≡ resets s

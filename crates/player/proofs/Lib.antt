@@ -1,4 +1,5 @@
 pub mod Puts
+pub mod Listed
 pub mod Rolling
 pub mod Meaning
 pub mod Arms

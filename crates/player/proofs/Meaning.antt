@@ -3,6 +3,7 @@ use mathlib.Core.Bool.{Bool, true, false, not, _&&_, _||_, cond, false≢true}
 use mathlib.Core.List.{List, [], _∷_, _++_, append-assoc}
 use mathlib.Core.Path.{_≡_, refl, sym, ap, ap₂, _∙_, subst}
 use Prim.Native.Nat.{ℕ, zero, suc, _+_, _*_, _/_, _%_, _^_, _≤_, _<_, min}
+use native.Mathlib.Nat.{mul-le-mul}
 use native.Mathlib.Omega.{arith}
 use borrow.Author.Tests.{ltb-true, ltb-false, leb-true, leb-false, eqb-true, le-ltb}
 use lib.Dec.{ltb, leb, eqb}
@@ -53,8 +54,8 @@ use Rattle.plans.specs.declared.Requeue.{Requeue}
 use Rattle.plans.specs.declared.Plan.the-variants as Plan
 use Rattle.plans.specs.Plans.{entersBy, pushPlan, releasesIn, stepOf, stepPlan, tickPlan, blockPlan, editPlan, resetPlan, ratePlan, planOf, letGoAfter, pastAfter, rewoundPlaces}
 use Rattle.plans.specs.Sounding.{soundedEvent, soundedRow, writtenTick, writtenBlock, writtenTo, length-overlay}
-use Rattle.player.specs.Records.{soundOf}
-use Rattle.player.proofs.Rolling.{sound-length}
+use Rattle.player.proofs.Puts.{sound-length}
+use Rattle.player.proofs.Rolling.{soundOf}
 
 -- what a plan sees of an engine
 abbrev pub clockOf : Sequencer → Clock
@@ -121,8 +122,8 @@ Means pool s a x o room (Answer n) = (a ≡ silent s n) × (o ≡ x) × (n ≡ 1
 Means pool s a x o room (Sound e) = (a ≡ silent (withNext (pushedActive s e) ((s .next + 1) % 2 ^ 64)) 0) × (o ≡ x) × (s .«active_len» < 256)
 Means pool s a x o room (Wait e) = (a ≡ silent (withNext (pushedReady s e) ((s .next + 1) % 2 ^ 64)) 0) × (o ≡ x) × (s .«ready_len» < 256)
 Means pool s a x o room (Render b) = Renders pool s a x o room b
-Means pool s a x o room Full = (a .refusal ≡ 1 → ⊥) × (room < length (soundOf a o))
-Means pool s a x o room (Amend k d) = (a ≡ silent (changed s k d .sequencer) (a .refusal)) × (o ≡ x) × (a .refusal ≡ 1 → ⊥)
+Means pool s a x o room Full = (length (soundOf a o) ≤ 2048) × (room < length (soundOf a o))
+Means pool s a x o room (Amend k d) = (a ≡ silent (changed s k d .sequencer) (a .refusal)) × (o ≡ x) × (a .refusal ≡ cond (noRoom (foundId (indexOf s) k) (s .«edit_map») (s .«active_threshold») k (d .«end_time»)) 9 0)
 Means pool s a x o room Clear = (a ≡ silent (resets s) 0) × (o ≡ x) × (s .mode ≡ None)
 Means pool s a x o room (Plan.Requeue q) = (a ≡ silent (requeuedIn q s) 0) × (o ≡ x)
 Means pool s a x o room Create = (a ≡ silent (a .sequencer) (a .refusal)) × (o ≡ x)
@@ -262,8 +263,8 @@ module _ (pool : List Float) (s : Sequencer) (p : EditRecord) (until : Float) (x
       go : (a b : Bool) → roomlessly ≡ b
           → Means pool s (silentOf (cond (eqb (refusal a b) 0) (changed s (p .id) amend) (refuses s (refusal a b)))) x x room (cond (eqb (cond a 8 0) 0) (Amend (p .id) amend) (Answer (cond a 8 0)))
       go true b q = (refl, refl, λ z. omega arith)
-      go false true q = (ap (λ (t : Sequencer). silent t 9) (sym (no-room-same s (p .id) amend q)), refl, λ z. omega arith)
-      go false false q = (refl, refl, λ z. let e = change-answers s (p .id) amend in omega arith)
+      go false true q = (ap (λ (t : Sequencer). silent t 9) (sym (no-room-same s (p .id) amend q)), refl, ap (λ (b : Bool). cond b 9 0) (sym q))
+      go false false q = (refl, refl, change-answers s (p .id) amend ∙ ap (λ (b : Bool). cond b 9 0) (sym q))
 
 same-rate : (s : Sequencer) (r : Float) → eq (s .«sample_rate») r ≡ true → reRated s r ≡ s
 unfolding reRated
@@ -386,7 +387,8 @@ module _ (pool : List Float) (s : Sequencer) (x o : List Float) (room : ℕ) (b 
       go true q =
           let m : room < 4 * (b .channels * b .size) = ltb-true room (4 * (b .channels * b .size)) q in
           let z = sound-length (b .channels) (b .size) (b .stride) o wide (omega arith) in
-          ((λ z. omega arith), omega arith)
+          let y = mul-le-mul few small in
+          (omega arith, omega arith)
       go false q = record { gives = refl; output = g; long = l; few = few; small = small; wide = wide; inside = inside; fits = ltb-false room (4 * (b .channels * b .size)) q }
 
 module _ (pool : List Float) (s : Sequencer) (x : List Float) (room : ℕ) (long : length x ≡ 512) where

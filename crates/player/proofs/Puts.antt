@@ -10,7 +10,7 @@ use lib.Seq.{sets, drop-drop, length-take-le}
 use Rattle.listing.specs.Pieces.{text, add}
 use Rattle.listing.specs.Putting.{Putting, begin, further, ended, same-long, left-is, place-is}
 use Rattle.little_endian.specs.Samples.{put-there}
-use Rattle.player.specs.Bytes.{bytesOf, length-bytes, bytes-append, channelsOf}
+use Rattle.player.specs.Bytes.{bytesOf, length-bytes, bytes-append, channelsOf, length-channels}
 
 channels-step : (c n w : ℕ) (xs : List Float) → 0 < c → bytesOf (channelsOf c n w xs) ≡ bytesOf (take n xs) ++ bytesOf (channelsOf (c - 1) n w (drop w xs))
 unfolding channelsOf
@@ -20,9 +20,12 @@ channels-step (suc c) n w xs h =
     bytes-append (take n xs) (channelsOf c n w (drop w xs)) ∙ ap (λ (j : ℕ). bytesOf (take n xs) ++ bytesOf (channelsOf j n w (drop w xs))) e
 
 -- room for n runs of s is room for one and for n - 1 behind it
-one-less : (n at s len : ℕ) → 0 < n → at + n * s ≤ len → at + s + (n - 1) * s ≤ len
+pub one-less : (n at s len : ℕ) → 0 < n → at + n * s ≤ len → at + s + (n - 1) * s ≤ len
 one-less zero at s len h l = absurd (omega arith)
 one-less (suc n) at s len h l = let e : n ≡ suc n - 1 = omega arith in subst (λ (j : ℕ). at + s + j * s ≤ len) e (omega arith)
+
+pub sound-length : (c n w : ℕ) (out : List Float) → n ≤ w → c * w ≤ length out → length (bytesOf (channelsOf c n w out)) ≡ 4 * (c * n)
+sound-length c n w out p q = length-bytes (channelsOf c n w out) ∙ ap (λ (k : ℕ). 4 * k) (length-channels c n w out p q)
 
 -- ---- the loop over the channels
 module _ (xs : List Float) (channels each stride : ℕ) (out₀ : List ℕ) (at : ℕ) where

@@ -1,62 +1,43 @@
--- The loop over a tape's records: what has been written and what the rest of the tape will give make the whole. Assumes nothing.
+-- The loop over a tape's records: what has been written, what the last record leaves and what the rest of the tape will give make the whole. Assumes nothing.
 use mathlib.Core.Path.{_≡_, refl, sym, ap, _∙_, subst}
-use mathlib.Core.List.{List, [], _∷_, _++_, append-nil}
+use mathlib.Core.List.{List, [], _∷_, _++_, append-nil, append-assoc}
 use mathlib.Core.Bool.{Bool, true, false, cond, true≢false, false≢true}
 use Prim.Native.Nat.{ℕ, zero, suc, _+_, _-_, _*_, _≤_, _<_}
-use native.Mathlib.Nat.{zero-add}
+use native.Mathlib.Nat.{zero-add, sub-zero}
 use native.Mathlib.Omega.{arith}
-use borrow.Author.Tests.{ltb-true, ltb-false, ne-eqb, eq-eqb, eqb-true, le-ltb, lt-ltb}
-use lib.ListN.{length, drop, length-drop}
-use lib.Seq.{sets, sets-eq}
+use borrow.Author.Tests.{ltb-true, ltb-false, ne-eqb, eq-eqb, le-ltb, lt-ltb}
+use lib.ListN.{length, drop, replicate, length-append, length-drop, length-replicate}
+use lib.Seq.{sets, sets-eq, length-sets}
 use lib.Dec.{ltb, eqb, lit<}
 use lib.Ieee.{Float}
-use Rattle.event.specs.declared.ReplayMode.the-variants.{All}
+use Rattle.floats.specs.Arithmetic.{zeroᶠ}
 use Rattle.sequencer.specs.declared.Sequencer.{Sequencer}
-use Rattle.sequencer.specs.Creation.{created}
+use Rattle.sequencer.specs.Readers.{countsOf}
 use Rattle.tape.specs.declared.reader.Cursor.{Cursor}
 use Rattle.tape.specs.declared.reader.Call.{Call}
 use Rattle.tape.specs.declared.reader.Read.{Read}
 use Rattle.tape.specs.declared.reader.Read.the-variants.{Record, Refused, End}
-use Rattle.tape.specs.Tape.{readAt, recordOf, unknown, pushKind, sizeOf, sizes, kindOf, callOf, modeByte, curveByte, sourceByte}
-use Rattle.listing.specs.Putting.{Putting, begin, further, ended, left-is, place-is}
+use Rattle.tape.specs.Tape.{readAt, recordOf, unknown, sizeOf, sizes, kindOf, callOf}
+use Rattle.tape.specs.Kinds.{each-kind, known}
+use Rattle.listing.specs.Putting.{sets-append}
 use Rattle.apply.specs.declared.Applied.{Applied}
 use Rattle.apply.specs.Applying.{silent, appliedTo, appliedOut}
-use Rattle.player.specs.Bytes.{bytesOf, length-bytes, channelsOf, length-channels}
-use Rattle.player.specs.Records.{soundOf, afterCall, afterRead, playedFrom, playedInto}
+use Rattle.player.specs.declared.Form.{Form}
+use Rattle.player.specs.declared.Form.the-variants.{Bytes, Lines}
+use Rattle.player.specs.declared.Pause.{Pause}
+use Rattle.player.specs.declared.Pause.the-variants as Pause
+use Rattle.player.specs.declared.Played.{Played}
+use Rattle.player.specs.declared.lines.Left.{Left}
+use Rattle.player.specs.Bytes.{bytesOf, channelsOf}
+use Rattle.player.specs.Lines.{leaves, roomFor, noneLeft, leftIn, neededIn}
+use Rattle.player.proofs.Listed.{Gives}
+use Rattle.player.specs.Records.{Ran, Rest, stops, behind, answerOf, leftBy, afterCall, ending, afterRead, isShort, atEnd, ranFrom, ran}
 
 -- ---- a record that was read moves the cursor on
 
--- a record that 14 does not refuse is of a known kind
-known : (first : Bool) (bs : List ℕ) → unknown first bs ≡ false → kindOf bs < 13
-unfolding unknown
-known true bs h = go (eqb (kindOf bs) 0) (eqb-true (kindOf bs) 0) h
-  where
-    go : (t : Bool) → (t ≡ true → kindOf bs ≡ 0) → cond t (ltb 1 (modeByte bs)) true ≡ false → kindOf bs < 13
-    go true e h = let z = e refl in omega arith
-    go false e h = absurd (true≢false h)
-known false bs h = go (eqb (kindOf bs) 0) (ltb 12 (kindOf bs)) (ltb-false 12 (kindOf bs)) (cond (pushKind (kindOf bs)) (cond (ltb 1 (curveByte bs)) true (ltb 2 (sourceByte bs))) false) h
-  where
-    go : (t u : Bool) → (u ≡ false → kindOf bs ≤ 12) → (r : Bool) → cond t true (cond u true r) ≡ false → kindOf bs < 13
-    go true u e r h = absurd (true≢false h)
-    go false true e r h = absurd (true≢false h)
-    go false false e r h = let z = e refl in omega arith
-
 size-pos : (k : ℕ) → k < 13 → 0 < sizeOf k
 unfolding sizeOf sizes
-size-pos zero h = lit< tt
-size-pos (suc zero) h = lit< tt
-size-pos (suc (suc zero)) h = lit< tt
-size-pos (suc (suc (suc zero))) h = lit< tt
-size-pos (suc (suc (suc (suc zero)))) h = lit< tt
-size-pos (suc (suc (suc (suc (suc zero))))) h = lit< tt
-size-pos (suc (suc (suc (suc (suc (suc zero)))))) h = lit< tt
-size-pos (suc (suc (suc (suc (suc (suc (suc zero))))))) h = lit< tt
-size-pos (suc (suc (suc (suc (suc (suc (suc (suc zero)))))))) h = lit< tt
-size-pos (suc (suc (suc (suc (suc (suc (suc (suc (suc zero))))))))) h = lit< tt
-size-pos (suc (suc (suc (suc (suc (suc (suc (suc (suc (suc zero)))))))))) h = lit< tt
-size-pos (suc (suc (suc (suc (suc (suc (suc (suc (suc (suc (suc zero))))))))))) h = lit< tt
-size-pos (suc (suc (suc (suc (suc (suc (suc (suc (suc (suc (suc (suc zero)))))))))))) h = lit< tt
-size-pos (suc (suc (suc (suc (suc (suc (suc (suc (suc (suc (suc (suc (suc k))))))))))))) h = absurd (omega arith)
+size-pos = each-kind (λ (k : ℕ). 0 < sizeOf k) (lit< tt) (lit< tt) (lit< tt) (lit< tt) (lit< tt) (lit< tt) (lit< tt) (lit< tt) (lit< tt) (lit< tt) (lit< tt) (lit< tt) (lit< tt)
 
 abbrev nextOf : Cursor → Read → Cursor
 nextOf d (Record k call next) = next
@@ -97,128 +78,255 @@ moves t c k call next e = go (ltb (c .at) (length t)) (ltb-true (c .at) (length 
         (l refl, omega arith, (let z = l refl in omega arith))
     go false l e = absurd (false≢true (ap isRecord e))
 
--- ---- one record of the definition
+-- ---- one turn of the definition
 
-module _ (pool : List Float) (t : List ℕ) (s : Sequencer) (c : Cursor) (samples : List Float) (room : ℕ) where
-  unread : (f : ℕ) → isRecord (readAt t c) ≡ false → playedFrom pool t f s c samples room ≡ []
-  unfolding playedFrom afterRead
-  unread zero h = refl
-  unread (suc f) h = go (readAt t c) h
-    where
-      go : (r : Read) → isRecord r ≡ false → afterRead pool (playedFrom pool t f) r s samples room ≡ []
-      go (Record k call next) h = absurd (true≢false h)
-      go (Refused k n) h = refl
-      go End h = refl
+-- what a record's call a has left in the output, as bytes
+abbrev pub soundOf : Applied → (samples : List Float) → List ℕ
+soundOf a samples = bytesOf (channelsOf (a .channels) (a .each) (a .stride) samples)
 
-  module _ (k : ℕ) (call : Call) (next : Cursor) (e : readAt t c ≡ Record k call next) (a : Applied) (o : List Float) (p : a ≡ appliedTo pool s call samples) (q : o ≡ appliedOut pool s call samples) where
-    once : (f : ℕ) → playedFrom pool t (suc f) s c samples room ≡ afterCall (playedFrom pool t f) a o next room
-    unfolding playedFrom afterRead
-    once f =
-        ap (λ (r : Read). afterRead pool (playedFrom pool t f) r s samples room) e
-        ∙ sym (λ i. afterCall (playedFrom pool t f) (p i) (q i) next room)
+module _ (form : Form) (pool : List Float) (t : List ℕ) (whole : Bool) where
+  turnOf : Rest → Sequencer → Cursor → (samples : List Float) → (room : ℕ) → Read → Ran
+  turnOf rest s c samples room r = cond (isShort whole (length t) (c .at)) (stops s c [] Pause.Short) (afterRead form pool rest r s c samples room)
 
-    refused-at : (f : ℕ) → a .refusal ≡ 1 → playedFrom pool t f s c samples room ≡ []
-    unfolding playedFrom afterCall
-    refused-at zero h = refl
-    refused-at (suc f) h = once f ∙ simp (eq-eqb (a .refusal) 1 h)
+  -- where no byte is left
+  over : (w : Bool) (rest : Rest) (s : Sequencer) (c : Cursor) (samples : List Float) (room : ℕ) → length t ≤ c .at
+      → stops s c [] (atEnd w) ≡ cond (isShort w (length t) (c .at)) (stops s c [] Pause.Short) (afterRead form pool rest End s c samples room)
+  unfolding afterRead
+  over true rest s c samples room h = refl
+  over false rest s c samples room h = simp (lt-ltb (length t - c .at) 47 (omega arith))
 
-    full-at : (f : ℕ) → (a .refusal ≡ 1 → ⊥) → room < length (soundOf a o) → playedFrom pool t f s c samples room ≡ []
-    unfolding playedFrom afterCall
-    full-at zero h m = refl
-    full-at (suc f) h m = once f ∙ simp (ne-eqb (a .refusal) 1 h, lt-ltb room (length (soundOf a o)) m)
+  turn : (f : ℕ) (s : Sequencer) (c : Cursor) (samples : List Float) (room : ℕ) → length t ≤ c .at + f
+      → ranFrom form pool t whole f s c samples room ≡ turnOf (ranFrom form pool t whole (f - 1)) s c samples room (readAt t c)
+  unfolding ranFrom turnOf readAt
+  turn zero s c samples room h =
+      let end : readAt t c ≡ End = simp (le-ltb (c .at) (length t) (omega arith)) in
+      over whole (ranFrom form pool t whole (zero - 1)) s c samples room (omega arith) ∙ ap (turnOf (ranFrom form pool t whole (zero - 1)) s c samples room) (sym end)
+  turn (suc f) s c samples room h =
+      let z : f ≡ suc f - 1 = omega arith in
+      ap (λ (j : ℕ). turnOf (ranFrom form pool t whole j) s c samples room (readAt t c)) z
 
-    on-at : (f : ℕ) → 0 < f → (a .refusal ≡ 1 → ⊥) → length (soundOf a o) ≤ room
-        → playedFrom pool t f s c samples room ≡ soundOf a o ++ playedFrom pool t (f - 1) (a .sequencer) next o (room - length (soundOf a o))
-    unfolding afterCall
-    on-at (suc f) l h m =
-        let z : f ≡ suc f - 1 = omega arith in
-        once f ∙ (simp (ne-eqb (a .refusal) 1 h, le-ltb room (length (soundOf a o)) m))
-        ∙ ap (λ (j : ℕ). soundOf a o ++ playedFrom pool t j (a .sequencer) next o (room - length (soundOf a o))) z
+  -- ---- the loop
 
--- ---- the loop
+  -- what comes from the last record on
+  abbrev pub afterLeft : (f : ℕ) → Sequencer → Cursor → Left → (samples : List Float) → (room : ℕ) → Ran
+  afterLeft f s c left samples room =
+      let bytes = leftIn form left (countsOf s) samples in
+      cond (eqb (left .refusal) 1) (stops s c bytes (Pause.Refused 1)) (behind bytes (ranFrom form pool t whole f s c samples (room - length bytes)))
 
--- `samples` is the output that the engine s is lent, which gives the rest
-pub record Rolling (pool : List Float) (t out₀ out : List ℕ) (samples₀ samples : List Float) (s : Sequencer) (c : Cursor) (at : ℕ) : Type 0 where
-  pub long : length samples ≡ 512
-  pub fuel : ℕ
-  pub enough : length t ≤ c .at + fuel
-  pub put : Putting out₀ 0 (playedInto pool t samples₀ (length out₀)) out (playedFrom pool t fuel s c samples (length out₀ - at)) at
-  pub within : at ≤ length out₀
+  -- and what comes behind it
+  abbrev pub afterIt : (f : ℕ) → Sequencer → Cursor → Left → (samples : List Float) → (room : ℕ) → Ran
+  afterIt f s c left samples room = cond (eqb (left .refusal) 1) (stops s c [] (Pause.Refused 1)) (ranFrom form pool t whole f s c samples room)
 
-pub start : (pool : List Float) (t out₀ : List ℕ) (samples : List Float) (s : Sequencer) → s ≡ created 1 All 1 .sequencer → length samples ≡ 512
-    → Rolling pool t out₀ out₀ samples samples s (record { at = 0; first = true }) 0
-unfolding playedInto
-start pool t out₀ samples s e n = record {
-  long = n;
-  fuel = length t;
-  enough = omega arith;
-  put =
-      left-is (begin out₀ 0 (playedInto pool t samples (length out₀)))
-      (ap (λ (r : ℕ). playedFrom pool t (length t) (created 1 All 1 .sequencer) (record { at = 0; first = true }) samples r) (let z : length out₀ ≡ length out₀ - 0 = omega arith in z)
-      ∙ ap (λ (x : Sequencer). playedFrom pool t (length t) x (record { at = 0; first = true }) samples (length out₀ - 0)) (sym e));
-  within = omega arith;
-}
+  module _ (s₀ : Sequencer) (c₀ : Cursor) (out₀ : List ℕ) where
+    abbrev pub all : Ran
+    all = ran form pool t whole s₀ c₀ (length out₀)
 
--- what the loop is to give back
-abbrev pub Whole : (whole out₀ out : List ℕ) → (at : ℕ) → Type 0
-Whole whole out₀ out at = (at ≡ length whole) × (out ≡ whole ++ drop at out₀)
+    -- at the beginning of a turn: `samples` is the output that the engine s is lent, `left` the record whose part is still to be put
+    pub record Rolling (out : List ℕ) (s : Sequencer) (c : Cursor) (samples : List Float) (left : Left) (at : ℕ) : Type 0 where
+      pub long : length samples ≡ 512
+      pub fuel : ℕ
+      pub enough : length t ≤ c .at + fuel
+      pub done : List ℕ
+      pub is : out ≡ sets out₀ 0 done
+      pub place : at ≡ length done
+      pub gives : all ≡ behind done (afterLeft fuel s c left samples (length out₀ - at))
+      pub wide : left .each ≤ left .stride
+      pub small : left .each ≤ 64
+      pub few : left .channels ≤ 8
+      pub inside : left .channels * left .stride ≤ length samples
+      pub fits : at + neededIn form left (countsOf s) samples ≤ length out₀
 
-module _ {pool : List Float} {t out₀ out : List ℕ} {samples₀ samples : List Float} {s : Sequencer} {c : Cursor} {at : ℕ} (w : Rolling pool t out₀ out samples₀ samples s c at) where
-  -- a stop: nothing more comes
-  stopped : playedFrom pool t (w .fuel) s c samples (length out₀ - at) ≡ [] → Whole (playedInto pool t samples₀ (length out₀)) out₀ out at
-  stopped e =
-      let p = left-is (w .put) e in
-      let whole = playedInto pool t samples₀ (length out₀) in
-      let d : p .done ≡ whole = sym (append-nil (p .done)) ∙ p .all in
-      let n : at ≡ length whole = p .place ∙ zero-add (length (p .done)) ∙ ap length d in
-      let i = w .within in
-      let fit : 0 + length whole ≤ length out₀ = omega arith in
-      (n, ended p ∙ sets-eq whole out₀ 0 fit ∙ ap (λ (k : ℕ). whole ++ drop k out₀) (zero-add (length whole) ∙ sym n))
+    -- once it has been put
+    pub record Resting (out : List ℕ) (s : Sequencer) (c : Cursor) (samples : List Float) (left : Left) (at : ℕ) : Type 0 where
+      pub long : length samples ≡ 512
+      pub fuel : ℕ
+      pub enough : length t ≤ c .at + fuel
+      pub done : List ℕ
+      pub is : out ≡ sets out₀ 0 done
+      pub place : at ≡ length done
+      pub gives : all ≡ behind done (afterIt fuel s c left samples (length out₀ - at))
+      pub within : at ≤ length out₀
 
-  pub ends-unread : (r : Read) → r ≡ readAt t c → isRecord r ≡ false → Whole (playedInto pool t samples₀ (length out₀)) out₀ out at
-  ends-unread r e h = stopped (unread pool t s c samples (length out₀ - at) (w .fuel) (sym (ap isRecord e) ∙ h))
-
-  -- one record: the call gives a, and o as the samples
-  module _ (k : ℕ) (call : Call) (next : Cursor) (e : readAt t c ≡ Record k call next) (a : Applied) (o : List Float) (p : a ≡ appliedTo pool s call samples) (q : o ≡ appliedOut pool s call samples) where
-    pub ends-refused : a .refusal ≡ 1 → Whole (playedInto pool t samples₀ (length out₀)) out₀ out at
-    ends-refused h = stopped (refused-at pool t s c samples (length out₀ - at) k call next e a o p q (w .fuel) h)
-
-    pub ends-full : (a .refusal ≡ 1 → ⊥) → length out₀ - at < length (soundOf a o) → Whole (playedInto pool t samples₀ (length out₀)) out₀ out at
-    ends-full h m = stopped (full-at pool t s c samples (length out₀ - at) k call next e a o p q (w .fuel) h m)
-
-    pub goes-on : length o ≡ 512 → (a .refusal ≡ 1 → ⊥) → length (soundOf a o) ≤ length out₀ - at → (out′ : List ℕ) → out′ ≡ sets out at (soundOf a o) → (at′ : ℕ) → at + length (soundOf a o) ≡ at′
-        → (s′ : Sequencer) → s′ ≡ a .sequencer → Rolling pool t out₀ out′ samples₀ o s′ next at′
-    goes-on l h m out′ is at′ z s′ r =
-        let n = moves t c k call next e in
-        let x = n .0 in
-        let y = n .1 in
-        let g = w .enough in
-        let i = w .within in
-        let size = length (soundOf a o) in
-        let some : 0 < w .fuel = omega arith in
-        let room : length out₀ - at - size ≡ length out₀ - at′ = omega arith in
-        subst (λ (x : Sequencer). Rolling pool t out₀ out′ samples₀ o x next at′) (sym r) (record {
-          long = l;
-          fuel = w .fuel - 1;
+    pub start : (samples : List Float) → samples ≡ replicate 512 zeroᶠ → (left : Left) → left ≡ noneLeft → Rolling out₀ s₀ c₀ samples left 0
+    unfolding ran
+    start samples e left n =
+        subst (λ (x : List Float). Rolling out₀ s₀ c₀ x left 0) (sym e)
+        (subst (λ (l : Left). Rolling out₀ s₀ c₀ (replicate 512 zeroᶠ) l 0) (sym n) (record {
+          long = length-replicate 512 zeroᶠ;
+          fuel = length t;
           enough = omega arith;
-          put =
-              place-is
-              (left-is
-              (further (soundOf a o) (playedFrom pool t (w .fuel - 1) (a .sequencer) next o (length out₀ - at - size))
-              (left-is (w .put) (on-at pool t s c samples (length out₀ - at) k call next e a o p q (w .fuel) some h m)) out′ is)
-              (ap (playedFrom pool t (w .fuel - 1) (a .sequencer) next o) room)) z;
-          within = omega arith;
-        })
+          done = [];
+          is = refl;
+          place = refl;
+          gives = ap (ranFrom form pool t whole (length t) s₀ c₀ (replicate 512 zeroᶠ)) (let z : length out₀ ≡ length out₀ - 0 - 0 = omega arith in z);
+          wide = omega arith;
+          small = omega arith;
+          few = omega arith;
+          inside = omega arith;
+          fits = omega arith;
+        }))
 
-  -- a record without samples leaves the output and the place as they were
-  pub goes-on-silent : (k : ℕ) (call : Call) (next : Cursor) → readAt t c ≡ Record k call next → {s′ : Sequencer} {n : ℕ} → appliedTo pool s call samples ≡ silent s′ n → appliedOut pool s call samples ≡ samples
-      → (n ≡ 1 → ⊥) → (x : Sequencer) → x ≡ s′ → Rolling pool t out₀ out samples₀ samples x next at
-  unfolding bytesOf channelsOf
-  goes-on-silent k call next e {s′} {n} p q h =
-      let z : at + 0 ≡ at = omega arith in
-      goes-on k call next e (silent s′ n) samples (sym p) (sym q) (w .long) h (omega arith) out refl at z
+    module _ {out : List ℕ} {s : Sequencer} {c : Cursor} {samples : List Float} {left : Left} {at : ℕ} where
+      pub same-out : Rolling out s c samples left at → length out ≡ length out₀
+      same-out w = ap length (w .is) ∙ length-sets out₀ 0 (w .done)
 
--- ---- the samples of a call
+      -- the last record's part is put
+      pub rests : Rolling out s c samples left at → {out′ : List ℕ} {at′ : ℕ} → out′ ≡ sets out at (leftIn form left (countsOf s) samples) → at′ ≡ at + length (leftIn form left (countsOf s) samples) → at′ ≤ length out
+          → Resting out′ s c samples left at′
+      rests w {out′} {at′} e n b =
+          let bytes = leftIn form left (countsOf s) samples in
+          let p = w .place in
+          let k = length-append (w .done) bytes in
+          let long = same-out w in
+          let room : length out₀ - at - length bytes ≡ length out₀ - at′ = omega arith in
+          let zero-at : at ≡ 0 + length (w .done) = omega arith in
+          record {
+            long = w .long;
+            fuel = w .fuel;
+            enough = w .enough;
+            done = w .done ++ bytes;
+            is = e ∙ (λ i. sets (w .is i) (zero-at i) bytes) ∙ sets-append out₀ 0 (w .done) bytes;
+            place = omega arith;
+            gives = w .gives ∙ go (eqb (left .refusal) 1) ∙ ap (λ (r : ℕ). behind (w .done ++ bytes) (afterIt (w .fuel) s c left samples r)) room;
+            within = omega arith;
+          }
+        where
+          go : (b : Bool)
+              → (let bytes = leftIn form left (countsOf s) samples in
+              behind (w .done) (cond b (stops s c bytes (Pause.Refused 1)) (behind bytes (ranFrom form pool t whole (w .fuel) s c samples (length out₀ - at - length bytes))))
+              ≡ behind (w .done ++ bytes) (cond b (stops s c [] (Pause.Refused 1)) (ranFrom form pool t whole (w .fuel) s c samples (length out₀ - at - length bytes))))
+          go true = let bytes = leftIn form left (countsOf s) samples in ap (λ (x : List ℕ). stops s c x (Pause.Refused 1)) (sym (append-nil (w .done ++ bytes)))
+          go false =
+              let bytes = leftIn form left (countsOf s) samples in
+              let r = ranFrom form pool t whole (w .fuel) s c samples (length out₀ - at - length bytes) in
+              ap (λ (x : List ℕ). stops (r .sequencer) (r .cursor) x (r .pause)) (sym (append-assoc (w .done) bytes (r .written)))
 
-pub sound-length : (c n w : ℕ) (out : List Float) → n ≤ w → c * w ≤ length out → length (bytesOf (channelsOf c n w out)) ≡ 4 * (c * n)
-sound-length c n w out p q = length-bytes (channelsOf c n w out) ∙ ap (λ (k : ℕ). 4 * k) (length-channels c n w out p q)
+    -- what the loop is to give back
+    abbrev pub Whole : Played → (out : List ℕ) → Type 0
+    Whole p out = (p ≡ answerOf all) × (out ≡ all .written ++ drop (p .used) out₀)
+
+    module _ {out : List ℕ} {s : Sequencer} {c : Cursor} {samples : List Float} {left : Left} {at : ℕ} (w : Resting out s c samples left at) where
+      pub same-rest : length out ≡ length out₀
+      same-rest = ap length (w .is) ∙ length-sets out₀ 0 (w .done)
+
+      pub roomy : {b : Bool} → ltb (length out - at) (roomFor form []) ≡ b → ltb (length out₀ - at) (roomFor form []) ≡ b
+      roomy h = ap (λ (n : ℕ). ltb (n - at) (roomFor form [])) (sym same-rest) ∙ h
+
+      -- a stop: some more bytes come, and then nothing
+      stopped : {x : Sequencer} {d : Cursor} {bytes : List ℕ} {p : Pause} → afterIt (w .fuel) s c left samples (length out₀ - at) ≡ stops x d bytes p
+          → {out′ : List ℕ} {n : ℕ} → out′ ≡ sets out at bytes → n ≡ at + length bytes → n ≤ length out₀ → Whole (record { sequencer = x; cursor = d; used = n; pause = p }) out′
+      stopped {x} {d} {bytes} {p} e {out′} {n} o m b =
+          let g : all ≡ stops x d (w .done ++ bytes) p = w .gives ∙ ap (behind (w .done)) e in
+          let q = w .place in
+          let k = length-append (w .done) bytes in
+          let size : n ≡ length (w .done ++ bytes) = omega arith in
+          let zero-at : at ≡ 0 + length (w .done) = omega arith in
+          let fit : 0 + length (w .done ++ bytes) ≤ length out₀ = omega arith in
+          let z : 0 + length (w .done ++ bytes) ≡ n = omega arith in (
+            (λ i. record { sequencer = x; cursor = d; used = size i; pause = p }) ∙ sym (ap answerOf g),
+            o ∙ (λ i. sets (w .is i) (zero-at i) bytes) ∙ sets-append out₀ 0 (w .done) bytes ∙ sets-eq (w .done ++ bytes) out₀ 0 fit
+                ∙ (λ i. sym g i .written ++ drop (z i) out₀),
+          )
+
+      -- nothing more is written
+      halted : {x : Sequencer} {d : Cursor} {p : Pause} → afterIt (w .fuel) s c left samples (length out₀ - at) ≡ stops x d [] p → Whole (record { sequencer = x; cursor = d; used = at; pause = p }) out
+      halted e = stopped e refl (let z : at ≡ at + 0 = omega arith in z) (w .within)
+
+      pub ends-refused : left .refusal ≡ 1 → Whole (record { sequencer = s; cursor = c; used = at; pause = Pause.Refused 1 }) out
+      ends-refused h = halted (simp (eq-eqb (left .refusal) 1 h))
+
+      module _ (h : left .refusal ≡ 1 → ⊥) where
+        onward : afterIt (w .fuel) s c left samples (length out₀ - at) ≡ turnOf (ranFrom form pool t whole (w .fuel - 1)) s c samples (length out₀ - at) (readAt t c)
+        onward = simp (ne-eqb (left .refusal) 1 h) (turn (w .fuel) s c samples (length out₀ - at) (w .enough))
+
+        pub ends-short : isShort whole (length t) (c .at) ≡ true → Whole (record { sequencer = s; cursor = c; used = at; pause = Pause.Short }) out
+        unfolding turnOf
+        ends-short q = halted (onward ∙ ap (λ (b : Bool). cond b (stops s c [] Pause.Short) (afterRead form pool (ranFrom form pool t whole (w .fuel - 1)) (readAt t c) s c samples (length out₀ - at))) q)
+
+        module _ (q : isShort whole (length t) (c .at) ≡ false) where
+          read-on : afterIt (w .fuel) s c left samples (length out₀ - at) ≡ afterRead form pool (ranFrom form pool t whole (w .fuel - 1)) (readAt t c) s c samples (length out₀ - at)
+          unfolding turnOf
+          read-on = onward ∙ ap (λ (b : Bool). cond b (stops s c [] Pause.Short) (afterRead form pool (ranFrom form pool t whole (w .fuel - 1)) (readAt t c) s c samples (length out₀ - at))) q
+
+          unread : (r : Read) → isRecord r ≡ false
+              → (let e = ending form r (countsOf s) (length out₀ - at) in afterRead form pool (ranFrom form pool t whole (w .fuel - 1)) r s c samples (length out₀ - at) ≡ stops s c (e .written) (e .pause))
+          unfolding afterRead ending
+          unread (Record k call next) h = absurd (true≢false h)
+          unread (Refused k n) h = refl
+          unread End h = refl
+
+          pub ends-unread : (r : Read) → r ≡ readAt t c → isRecord r ≡ false → {out′ : List ℕ} {n : ℕ} {p : Pause} → Gives (ending form r (countsOf s) (length out - at)) out out′ at p n
+              → Whole (record { sequencer = s; cursor = c; used = n; pause = p }) out′
+          ends-unread r e u {out′} {n} {p} given =
+              let same = same-rest in
+              let g = subst (λ (k : ℕ). Gives (ending form r (countsOf s) (k - at)) out out′ at p n) same given in
+              let b = g .1 .1 .1 in
+              subst (λ (x : Pause). Whole (record { sequencer = s; cursor = c; used = n; pause = x }) out′) (sym (g .0))
+              (stopped (read-on ∙ ap (λ (x : Read). afterRead form pool (ranFrom form pool t whole (w .fuel - 1)) x s c samples (length out₀ - at)) (sym e) ∙ unread r u) (g .1 .1 .0) (g .1 .0) (omega arith))
+
+          -- one record: the call gives a, and o as the samples
+          module _ (k : ℕ) (call : Call) (next : Cursor) (e : readAt t c ≡ Record k call next) (a : Applied) (o : List Float) (ca : a ≡ appliedTo pool s call samples) (co : o ≡ appliedOut pool s call samples) where
+            called : afterIt (w .fuel) s c left samples (length out₀ - at) ≡ afterCall form (ranFrom form pool t whole (w .fuel - 1)) s c k a o next (length out₀ - at)
+            unfolding afterRead
+            called =
+                read-on ∙ ap (λ (r : Read). afterRead form pool (ranFrom form pool t whole (w .fuel - 1)) r s c samples (length out₀ - at)) e
+                ∙ sym (λ i. afterCall form (ranFrom form pool t whole (w .fuel - 1)) s c k (ca i) (co i) next (length out₀ - at))
+
+            ends-full : ltb (length out₀ - at) (roomFor form (leftBy form k a o)) ≡ true → Whole (record { sequencer = s; cursor = c; used = at; pause = Pause.Full }) out
+            unfolding afterCall
+            ends-full f = halted (called ∙ simp f)
+
+            -- no room for any record's lines
+            pub ends-full-lines : ltb (length out₀ - at) (roomFor form []) ≡ true → Whole (record { sequencer = s; cursor = c; used = at; pause = Pause.Full }) out
+            ends-full-lines f = ends-full (go form (leftBy form k a o) f)
+              where
+                go : (x : Form) (bytes : List ℕ) → ltb (length out₀ - at) (roomFor x []) ≡ true → ltb (length out₀ - at) (roomFor x bytes) ≡ true
+                go Bytes bytes h = let z = ltb-true (length out₀ - at) 0 h in absurd (omega arith)
+                go Lines bytes h = h
+
+            -- no room for this record's bytes
+            pub ends-full-bytes : ltb (length out₀ - at) (roomFor form []) ≡ false → length out₀ - at < length (soundOf a o) → length (soundOf a o) ≤ 2048 → Whole (record { sequencer = s; cursor = c; used = at; pause = Pause.Full }) out
+            unfolding leaves
+            ends-full-bytes f m n = ends-full (go form f)
+              where
+                go : (x : Form) → ltb (length out₀ - at) (roomFor x []) ≡ false → ltb (length out₀ - at) (roomFor x (leftBy x k a o)) ≡ true
+                go Bytes h = lt-ltb (length out₀ - at) (length (soundOf a o)) m
+                go Lines h = let z = ltb-false (length out₀ - at) 4716 h in absurd (omega arith)
+
+            pub goes-on : length o ≡ 512 → a .each ≤ a .stride → a .each ≤ 64 → a .channels ≤ 8 → a .channels * a .stride ≤ 512 → ltb (length out₀ - at) (roomFor form []) ≡ false → length (soundOf a o) ≤ length out₀ - at
+                → (l : Left) → l ≡ record { any = true; kind = k; refusal = a .refusal; channels = a .channels; each = a .each; stride = a .stride } → (s′ : Sequencer) → s′ ≡ a .sequencer → Rolling out s′ next o l at
+            unfolding afterCall leaves
+            goes-on long wide small few inside f m l is s′ r =
+                let n = moves t c k call next e in
+                let x = n .0 in
+                let y = n .1 in
+                let g = w .enough in
+                let i = w .within in
+                let v : Left = record { any = true; kind = k; refusal = a .refusal; channels = a .channels; each = a .each; stride = a .stride } in
+                let room : roomFor form (leftBy form k a o) ≤ length out₀ - at = go form f in
+                subst (λ (x : Sequencer). Rolling out x next o l at) (sym r)
+                (subst (λ (z : Left). Rolling out (a .sequencer) next o z at) (sym is) (record {
+                  long = long;
+                  fuel = w .fuel - 1;
+                  enough = omega arith;
+                  done = w .done;
+                  is = w .is;
+                  place = w .place;
+                  gives = w .gives ∙ ap (behind (w .done)) (called ∙ simp (le-ltb (length out₀ - at) (roomFor form (leftBy form k a o)) room));
+                  wide = wide;
+                  small = small;
+                  few = few;
+                  inside = omega arith;
+                  fits = omega arith;
+                }))
+              where
+                go : (x : Form) → ltb (length out₀ - at) (roomFor x []) ≡ false → roomFor x (leftBy x k a o) ≤ length out₀ - at
+                go Bytes h = m
+                go Lines h = ltb-false (length out₀ - at) 4716 h
+
+          -- a record without samples leaves the output as it was
+          pub goes-on-silent : (k : ℕ) (call : Call) (next : Cursor) → readAt t c ≡ Record k call next → {s′ : Sequencer} {n : ℕ} → appliedTo pool s call samples ≡ silent s′ n → appliedOut pool s call samples ≡ samples
+              → ltb (length out₀ - at) (roomFor form []) ≡ false → (l : Left) → l ≡ record { any = true; kind = k; refusal = n; channels = 0; each = 0; stride = 0 } → (x : Sequencer) → x ≡ s′ → Rolling out x next samples l at
+          unfolding bytesOf channelsOf
+          goes-on-silent k call next e {s′} {n} p q f =
+              goes-on k call next e (silent s′ n) samples (sym p) (sym q) (w .long) (omega arith) (omega arith) (omega arith) (omega arith) f (omega arith)

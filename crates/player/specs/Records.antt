@@ -1,6 +1,6 @@
--- A tape's records on an engine, one after the other: the fold of a record's step (crate apply). What it gives are the bytes of the samples, as far as there is room. Assumes nothing.
+-- A tape's records on an engine, one after the other: the fold of a record's step (crate apply), from any engine and cursor on. Assumes nothing.
 use Prim.Native.Nat.{ℕ, zero, suc, _-_}
-use mathlib.Core.Bool.{true, cond}
+use mathlib.Core.Bool.{Bool, true, false, cond}
 use mathlib.Core.List.{List, [], _++_}
 use lib.Dec.{ltb, eqb}
 use lib.Ieee.{Float}
@@ -8,46 +8,100 @@ use lib.ListN.{length, replicate}
 use Rattle.event.specs.declared.ReplayMode.the-variants.{All}
 use Rattle.floats.specs.Arithmetic.{zeroᶠ}
 use Rattle.sequencer.specs.declared.Sequencer.{Sequencer}
+use Rattle.sequencer.specs.declared.readers.Counts.{Counts}
 use Rattle.sequencer.specs.Creation.{created}
+use Rattle.sequencer.specs.Readers.{countsOf}
 use Rattle.tape.specs.declared.reader.Cursor.{Cursor}
 use Rattle.tape.specs.declared.reader.Read.{Read}
-use Rattle.tape.specs.declared.reader.Read.the-variants.{Record, Refused, End}
+use Rattle.tape.specs.declared.reader.Read.the-variants as Read
 use Rattle.tape.specs.Tape.{readAt}
 use Rattle.apply.specs.declared.Applied.{Applied}
 use Rattle.apply.specs.Applying.{appliedTo, appliedOut}
-use Rattle.player.specs.Bytes.{bytesOf, channelsOf}
+use Rattle.player.specs.declared.Form.{Form}
+use Rattle.player.specs.declared.Form.the-variants.{Bytes, Lines}
+use Rattle.player.specs.declared.Pause.{Pause}
+use Rattle.player.specs.declared.Pause.the-variants.{End, Refused, Full, Short}
+use Rattle.player.specs.declared.Played.{Played}
+use Rattle.player.specs.Lines.{leaves, recordLine, roomFor}
+
+-- what the records leave: an engine and a cursor to go on from, what is written, and why they stopped
+pub record Ran : Type 0 where
+  pub sequencer : Sequencer
+  pub cursor : Cursor
+  pub written : List ℕ
+  pub pause : Pause
+
+abbrev pub stops : Sequencer → Cursor → List ℕ → Pause → Ran
+stops s c bytes p = record { sequencer = s; cursor = c; written = bytes; pause = p }
+
+abbrev pub answerOf : Ran → Played
+answerOf r = record { sequencer = r .sequencer; cursor = r .cursor; used = length (r .written); pause = r .pause }
+
+-- more is written before
+abbrev pub behind : List ℕ → Ran → Ran
+behind bytes r = stops (r .sequencer) (r .cursor) (bytes ++ r .written) (r .pause)
 
 -- the rest: from an engine and a cursor on, with the output that the engine is lent and so much room left
 abbrev pub Rest : Type 0
-Rest = Sequencer → Cursor → (samples : List Float) → (room : ℕ) → List ℕ
+Rest = Sequencer → Cursor → (samples : List Float) → (room : ℕ) → Ran
 
--- what a record's call a has left in the output, as bytes
-abbrev pub soundOf : Applied → (samples : List Float) → List ℕ
-soundOf a samples = bytesOf (channelsOf (a .channels) (a .each) (a .stride) samples)
+-- what a record's call a leaves
+abbrev pub leftBy : Form → (kind : ℕ) → Applied → (samples : List Float) → List ℕ
+leftBy form kind a samples = leaves form kind (a .refusal) (countsOf (a .sequencer)) (a .channels) (a .each) (a .stride) samples
 
--- refusal 1 stops it, and so does a tick or block whose samples do not fit
-unfoldable pub afterCall : Rest → Applied → (samples : List Float) → (next : Cursor) → (room : ℕ) → List ℕ
-afterCall rest a samples next room =
-    let bytes = soundOf a samples in
-    cond (eqb (a .refusal) 1) [] (cond (ltb room (length bytes)) [] (bytes ++ rest (a .sequencer) next samples (room - length bytes)))
+-- a record for which there is no room is not carried out; refusal 1 stops the tape
+unfoldable pub afterCall : Form → Rest → Sequencer → Cursor → (kind : ℕ) → Applied → (samples : List Float) → (next : Cursor) → (room : ℕ) → Ran
+afterCall form rest s c kind a samples next room =
+    let bytes = leftBy form kind a samples in
+    cond (ltb room (roomFor form bytes)) (stops s c [] Full)
+    (cond (eqb (a .refusal) 1) (stops (a .sequencer) next bytes (Refused 1)) (behind bytes (rest (a .sequencer) next samples (room - length bytes))))
 
--- 14, 15 and the tape's end stop it
-unfoldable pub afterRead : (pool : List Float) → Rest → Read → Sequencer → (samples : List Float) → (room : ℕ) → List ℕ
-unfolding afterCall
-afterRead pool rest (Record kind call next) s samples room = afterCall rest (appliedTo pool s call samples) (appliedOut pool s call samples) next room
-afterRead pool rest (Refused kind number) s samples room = []
-afterRead pool rest End s samples room = []
+-- what is written, and why the records stop, where none is read: 14 and 15 have "counts as before"
+pub record Ending : Type 0 where
+  pub written : List ℕ
+  pub pause : Pause
+
+abbrev pub refusedLine : Form → (kind number : ℕ) → Counts → List ℕ
+refusedLine Bytes kind number counts = []
+refusedLine Lines kind number counts = recordLine kind number counts
+
+unfoldable pub ending : Form → Read → Counts → (room : ℕ) → Ending
+ending form (Read.Record kind call next) counts room = record { written = []; pause = End }
+ending form (Read.Refused kind number) counts room =
+    let line = refusedLine form kind number counts in
+    cond (ltb room (roomFor form [])) (record { written = []; pause = Full }) (record { written = line; pause = Refused number })
+ending form Read.End counts room = record { written = []; pause = End }
+
+unfoldable pub afterRead : Form → (pool : List Float) → Rest → Read → Sequencer → Cursor → (samples : List Float) → (room : ℕ) → Ran
+unfolding afterCall ending
+afterRead form pool rest (Read.Record kind call next) s c samples room = afterCall form rest s c kind (appliedTo pool s call samples) (appliedOut pool s call samples) next room
+afterRead form pool rest (Read.Refused kind number) s c samples room =
+    let e = ending form (Read.Refused kind number) (countsOf s) room in
+    stops s c (e .written) (e .pause)
+afterRead form pool rest Read.End s c samples room = stops s c [] End
+
+-- of a tape that goes on, fewer bytes are left than a record may need (tape/specs/Window)
+abbrev pub isShort : (whole : Bool) → (length at : ℕ) → Bool
+isShort true n at = false
+isShort false n at = ltb (n - at) 47
+
+-- where no byte is left
+abbrev pub atEnd : (whole : Bool) → Pause
+atEnd true = End
+atEnd false = Short
 
 -- at most f records
-unfoldable pub playedFrom : (pool : List Float) → (tape : List ℕ) → (f : ℕ) → Rest
+unfoldable pub ranFrom : Form → (pool : List Float) → (tape : List ℕ) → (whole : Bool) → (f : ℕ) → Rest
 unfolding afterRead
-playedFrom pool tape zero s c samples room = []
-playedFrom pool tape (suc f) s c samples room = afterRead pool (playedFrom pool tape f) (readAt tape c) s samples room
+ranFrom form pool tape whole zero s c samples room = stops s c [] (atEnd whole)
+ranFrom form pool tape whole (suc f) s c samples room =
+    cond (isShort whole (length tape) (c .at)) (stops s c [] Short) (afterRead form pool (ranFrom form pool tape whole f) (readAt tape c) s c samples room)
 
--- A tape has no more records than bytes. Its first record, 00, replaces the engine that stands here before it.
-unfoldable pub playedInto : (pool : List Float) → (tape : List ℕ) → (samples : List Float) → (room : ℕ) → List ℕ
-unfolding playedFrom
-playedInto pool tape samples room = playedFrom pool tape (length tape) (created 1 All 1 .sequencer) (record { at = 0; first = true }) samples room
+-- a tape has no more records than bytes; the engine is lent an output of silence
+unfoldable pub ran : Form → (pool : List Float) → (tape : List ℕ) → (whole : Bool) → Sequencer → Cursor → (room : ℕ) → Ran
+unfolding ranFrom
+ran form pool tape whole s c room = ranFrom form pool tape whole (length tape) s c (replicate 512 zeroᶠ) room
 
+-- a whole tape's samples as bytes; its first record, 00, replaces the engine that stands here before it
 abbrev pub played : (pool : List Float) → (tape : List ℕ) → (room : ℕ) → List ℕ
-played pool tape room = playedInto pool tape (replicate 512 zeroᶠ) room
+played pool tape room = ran Bytes pool tape true (created 1 All 1 .sequencer) (record { at = 0; first = true }) room .written

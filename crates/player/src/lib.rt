@@ -1,41 +1,115 @@
 // A tape's records on an engine that stays in place. What a record asks for is decided before, on small values (crate plans).
 mod bytes;
+mod lines;
 
 ghost use mathlib.Core.Path.{_≡_};
 ghost use mathlib.Core.List.{_++_};
 ghost use lib.ListN.{length, drop};
-ghost use Rattle.player.specs.Records.{playedInto, played};
+ghost use Rattle.player.specs.Records.{ran, answerOf, played};
 use event::StoredEdit;
 use plans::Clock;
 use plans::Plan;
 use refusals::held;
 use runs::least;
+use sequencer::Counts;
+use sequencer::Sequencer;
 use tape::reader::Cursor;
 use tape::reader::Read;
 
+// What a record leaves in the output: its samples as bytes (the C entry), or its lines of the listing (`trail`).
+pub enum Form {
+    Bytes,
+    Lines,
+}
+
+// Why the records stopped: the tape's end; refusal 1, 14 or 15; no room for the next record; fewer bytes left than a record may need, of a tape that goes on.
+pub enum Pause {
+    End,
+    Refused(u8),
+    Full,
+    Short,
+}
+
+// The engine and the cursor before the next record, how many bytes of the output are in use, and what stopped it.
+pub struct Played {
+    pub sequencer: Sequencer,
+    pub cursor: Cursor,
+    pub used: usize,
+    pub pause: Pause,
+}
+
 // The one function that owns the engine. It is long because every loop that moves events stands in it: an engine that goes through a function in a loop is copied, 63,584 bytes, each time.
-// Each arm has document 01's sentence; a creation, which is rare, goes by value.
-fn run(tape: &[u8], pool: &[f32], samples: &mut [f32], out: &mut [u8]) -> usize
-    requires { ⌜ length (now samples) ≡ 512 ⌝ }
-    ensures { λ r. ⌜ r ≡ length (playedInto (now (pool .entry)) (now (tape .entry)) (now (samples .entry)) (length (now (out .entry)))) ⌝ }
-    ensures { λ r. ⌜ now (out .exit) ≡ playedInto (now (pool .entry)) (now (tape .entry)) (now (samples .entry)) (length (now (out .entry))) ++ drop r (now (out .entry)) ⌝ }
+// Each arm has document 01's sentence; a creation, which is rare, goes by value. What a record leaves in `out` is put at the beginning of the next turn.
+pub fn run(
+    sequencer: Sequencer,
+    cursor: Cursor,
+    tape: &[u8],
+    whole: bool,
+    pool: &[f32],
+    form: Form,
+    out: &mut [u8],
+) -> Played
+    ensures answer { λ r. ⌜ r ≡ answerOf (ran form (now (pool .entry)) (now (tape .entry)) whole sequencer cursor (length (now (out .entry)))) ⌝ }
+    ensures lent { λ r. ⌜ now (out .exit) ≡ ran form (now (pool .entry)) (now (tape .entry)) whole sequencer cursor (length (now (out .entry))) .written ++ drop (r .used) (now (out .entry)) ⌝ }
 {
-    let mut s = apply::start();
-    // The stored edits stand beside the engine, so that one place of theirs is written and not the whole map copied.
+    let mut s = sequencer;
+    // The stored edits stand beside the engine, so that one place of theirs is written and not the whole map copied. They go back where the engine goes.
     let mut edits = s.edit_map;
-    let mut cursor = Cursor { at: 0, first: true };
+    let mut cursor = cursor;
+    let mut samples = apply::silence();
+    let mut left = lines::nothing();
     let mut at: usize = 0;
     loop {
-        let r = cursor.read(tape);
-        let Read::Record {
-            kind: _,
-            call,
-            next,
-        } = r
-        else {
-            return at;
+        let counts = Counts {
+            waiting: s.ready_len,
+            sounding: s.active_len,
+            finished: s.past_len,
+            let_go: s.let_go,
         };
+        at = lines::leave(form, left, counts, &samples, out, at);
+        // "Refusals 1, 14, 15 stop it".
+        if left.refusal == 1 {
+            s.edit_map = edits;
+            return Played {
+                sequencer: s,
+                cursor,
+                used: at,
+                pause: Pause::Refused(1),
+            };
+        }
+        if lines::is_short(whole, tape.len(), cursor.at) {
+            s.edit_map = edits;
+            return Played {
+                sequencer: s,
+                cursor,
+                used: at,
+                pause: Pause::Short,
+            };
+        }
+        let r = cursor.read(tape);
+        let Read::Record { kind, call, next } = r else {
+            let stop = lines::unread(form, r, counts, out, at);
+            let pause = stop.pause;
+            s.edit_map = edits;
+            return Played {
+                sequencer: s,
+                cursor,
+                used: stop.used,
+                pause,
+            };
+        };
+        if lines::is_full(form, out.len() - at) {
+            s.edit_map = edits;
+            return Played {
+                sequencer: s,
+                cursor,
+                used: at,
+                pause: Pause::Full,
+            };
+        }
+        let here = cursor;
         cursor = next;
+        left = lines::silent(kind);
         let mode = s.mode;
         let clock = Clock {
             time: s.time,
@@ -50,10 +124,18 @@ fn run(tape: &[u8], pool: &[f32], samples: &mut [f32], out: &mut [u8]) -> usize
         let plan = plans::plan_of(call, clock, out.len() - at);
         match plan {
             // "A refused call leaves it and all that is lent unchanged"; so does the rate that the engine has.
-            Plan::Answer(_) => {}
+            Plan::Answer(n) => {
+                left.refusal = n;
+            }
             // "It also stops before the first tick or block whose samples don't fit".
             Plan::Full => {
-                return at;
+                s.edit_map = edits;
+                return Played {
+                    sequencer: s,
+                    cursor: here,
+                    used: at,
+                    pause: Pause::Full,
+                };
             }
             // Push: "start < θ appends to S without looking in E";
             Plan::Sound(event) => {
@@ -162,7 +244,7 @@ fn run(tape: &[u8], pool: &[f32], samples: &mut [f32], out: &mut [u8]) -> usize
                     }
                 }
                 s.time = step.end;
-                // The samples, in S order, and their bytes. Of an event only its source's place changes.
+                // The samples, in S order. Of an event only its source's place changes.
                 let m = least(s.active_len, 256);
                 let w = mixing::cleared_places(step.size);
                 let mut mix = [0.0f32; 64];
@@ -174,9 +256,10 @@ fn run(tape: &[u8], pool: &[f32], samples: &mut [f32], out: &mut [u8]) -> usize
                     s.active[k].unit.place = unit.place;
                     k = k + 1;
                 }
-                plans::write(step, &mix[0..w], samples);
-                bytes::put_channels(samples, step.channels, step.size, step.stride, out, at);
-                at = at + 4 * (step.channels * step.size);
+                plans::write(step, &mix[0..w], &mut samples);
+                left.channels = step.channels;
+                left.each = step.size;
+                left.stride = step.stride;
             }
             // Edit: "in S, replace end and fade-out. Else, if end < θ, nothing. Else store in E, replacing an earlier edit".
             Plan::Amend(id, edit) => {
@@ -211,6 +294,8 @@ fn run(tape: &[u8], pool: &[f32], samples: &mut [f32], out: &mut [u8]) -> usize
                         let n = edits.len;
                         edits.items[n] = new;
                         edits.len = n + 1;
+                    } else {
+                        left.refusal = 9;
                     }
                 }
             }
@@ -268,13 +353,11 @@ fn run(tape: &[u8], pool: &[f32], samples: &mut [f32], out: &mut [u8]) -> usize
                 s.sample_duration = after.duration;
                 s.active_threshold = plans::lowest();
             }
-            // A creation; "refusals 1, 14, 15 stop it".
+            // A creation.
             Plan::Create => {
                 s.edit_map = edits;
-                let a = apply::apply(s, call, pool, samples);
-                if a.refusal == 1 {
-                    return at;
-                }
+                let a = apply::apply(s, call, pool, &mut samples);
+                left.refusal = a.refusal;
                 s = a.sequencer;
                 edits = s.edit_map;
             }
@@ -287,6 +370,7 @@ pub fn play(tape: &[u8], pool: &[f32], out: &mut [u8]) -> usize
     ensures { λ r. ⌜ r ≡ length (played (now (pool .entry)) (now (tape .entry)) (length (now (out .entry)))) ⌝ }
     ensures { λ r. ⌜ now (out .exit) ≡ played (now (pool .entry)) (now (tape .entry)) (length (now (out .entry))) ++ drop r (now (out .entry)) ⌝ }
 {
-    let mut samples = apply::silence();
-    run(tape, pool, &mut samples, out)
+    let cursor = Cursor { at: 0, first: true };
+    let p = run(apply::start(), cursor, tape, true, pool, Form::Bytes, out);
+    p.used
 }

@@ -1,97 +1,121 @@
-// Reads a tape of any length from standard input and lists it, in pieces of 64 KB each way. A failed read counts as the tape's end; a failed write ends the listing. Both are said on standard error.
-mod lines;
+// Reads a tape of any length from standard input and lists it, in pieces of 64 KB each way. `trail --pool FILE` has the file's samples as the pool that clips read.
+// A failed read counts as the tape's end; a failed write ends the listing. Both are said on standard error.
+mod say;
 
-ghost use mathlib.Core.Path.{_≡_};
-ghost use Prim.Native.Nat.{_+_, _-_, _≤_, min};
-ghost use lib.ListN.{length, take, drop};
+use player::Form;
+use player::Pause;
 use tape::reader::Cursor;
-use tape::reader::Read;
 
-// Moves the bytes from `at` up to `have` to the front, and answers how many they are.
-fn shift(buf: &mut [u8], at: usize, have: usize) -> usize
-    ensures { λ r. ⌜ r ≡ min have (length (now (buf .entry))) - at ⌝ }
-    ensures { λ r. ⌜ take r (now (buf .exit)) ≡ take r (drop at (now (buf .entry))) ⌝ }
-{
-    let mut to: usize = 0;
-    let mut from = at;
-    while from < have {
-        if buf.len() <= from {
-            return to;
-        }
-        buf[to] = buf[from];
-        to = to + 1;
-        from = from + 1;
+// Writes the first `used` bytes of the text; false where they were not written.
+fn write_out(text: &[u8], used: usize) -> bool {
+    if text.len() < used {
+        return false;
     }
-    to
+    if io::write_all(1, &text[..used]) {
+        return true;
+    }
+    io::write_all(2, b"trail: standard output cannot be written\n");
+    false
 }
 
-// Reads once, behind the first `have` bytes; answers how many bytes came, none at the end or where the read fails.
-fn read_on(buf: &mut [u8], have: usize) -> usize
-    ensures { λ r. ⌜ (have ≤ length (now (buf .entry)) → have + r ≤ length (now (buf .entry))) ⌝ }
-{
-    if buf.len() < have {
-        return 0;
-    }
-    let got = libc::read(0, &mut buf[have..]);
-    if got < 0 {
-        io::write_all(2, b"trail: standard input cannot be read\n");
-        return 0;
-    }
-    io::count(got, &buf[have..])
-}
-
-// Whether `have` bytes hold a whole record of any kind from `at` on: reading one needs no more than 47 (tape, specs/Window).
-fn enough(at: usize, have: usize) -> bool {
-    if have < at { false } else { 47 <= have - at }
-}
-
-fn main() {
+// Lists the tape that standard input has.
+fn list(pool: &[f32]) {
     let mut buf = io::large_buffer();
     let mut text = io::large_buffer();
-    let pool = tape::pool::trail_pool();
-    let mut samples = apply::silence();
     let mut s = apply::start();
-    let mut first = true;
-    let mut at: usize = 0;
+    let mut cursor = Cursor { at: 0, first: true };
     let mut have: usize = 0;
-    let mut used: usize = 0;
     let mut whole = false;
     let mut turns = u64::MAX;
     while turns > 0 {
         turns = turns - 1;
-        if whole || enough(at, have) {
-            let c = Cursor { at, first };
-            let r = c.read(&buf[..have]);
-            let Read::Record { kind, call, next } = r else {
-                lines::finish(r, s.counts(), &mut text, used);
-                return;
-            };
-            let a = apply::apply(s, call, &pool, &mut samples);
-            s = a.sequencer;
-            let l = lines::list(
-                kind,
-                a.refusal,
-                s.counts(),
-                &samples,
-                a.channels,
-                a.each,
-                a.stride,
-                &mut text,
-                used,
-            );
-            used = l.used;
-            if !l.on {
-                lines::finish(Read::End, s.counts(), &mut text, used);
+        let p = player::run(s, cursor, &buf[..have], whole, pool, Form::Lines, &mut text);
+        s = p.sequencer;
+        cursor = p.cursor;
+        let pause = p.pause;
+        match pause {
+            Pause::Full => {
+                if !write_out(&text, p.used) {
+                    return;
+                }
+            }
+            Pause::Short => {
+                if !write_out(&text, p.used) {
+                    return;
+                }
+                have = tape_input::shift(&mut buf, cursor.at, have);
+                let first = cursor.first;
+                cursor = Cursor { at: 0, first };
+                let came = tape_input::read_on(0, &mut buf, have);
+                if came.failed {
+                    io::write_all(2, b"trail: standard input cannot be read\n");
+                }
+                whole = came.count == 0;
+                have = have + came.count;
+            }
+            Pause::Refused(number) => {
+                write_out(&text, p.used);
+                say::refusal(number as u64);
                 return;
             }
-            first = next.first;
-            at = next.at;
-        } else {
-            have = shift(&mut buf, at, have);
-            at = 0;
-            let got = read_on(&mut buf, have);
-            whole = got == 0;
-            have = have + got;
+            Pause::End => {
+                write_out(&text, p.used);
+                return;
+            }
         }
     }
+}
+
+// With the pool that a file has.
+fn list_with_pool(path: &[u8]) {
+    let fd = os::open_read(path);
+    if fd < 0 {
+        os::fail(path);
+        return;
+    }
+    let mut pool = pool_file::room();
+    let loaded = pool_file::load(fd, &mut pool);
+    libc::close(fd);
+    if !loaded.good {
+        return;
+    }
+    let n = loaded.count;
+    if n <= 262144 {
+        list(&pool[..n]);
+    }
+}
+
+// `--pool FILE`; anything else is answered by the usage.
+fn list_with_arguments() {
+    if os::arg_count() != 3 {
+        say::usage();
+        return;
+    }
+    let mut word = io::buffer();
+    let n = os::arg(1, &mut word);
+    if !pool_file::is_option(&word[..n]) {
+        say::usage();
+        return;
+    }
+    let mut path = io::buffer();
+    let m = os::arg(2, &mut path);
+    if os::errno() != 0 {
+        os::fail(b"trail: FILE");
+        return;
+    }
+    list_with_pool(&path[..m]);
+}
+
+// Document 01's listing takes no argument; on a terminal nothing could be read.
+fn main() {
+    if libc::isatty(0) == 1 {
+        say::usage();
+        return;
+    }
+    if 1 < os::arg_count() {
+        list_with_arguments();
+        return;
+    }
+    let pool = tape::pool::trail_pool();
+    list(&pool);
 }

@@ -1,20 +1,29 @@
 -- `player::play` meets its contract. Assumes nothing.
-use mathlib.Core.Path.{_≡_, subst}
-use mathlib.Core.List.{List}
-use lib.Ieee.{Float}
-use lib.ListN.{length, replicate}
-use Rattle.floats.specs.Arithmetic.{zeroᶠ}
-use Rattle.player.specs.Records.{playedInto}
-use Rattle.player.proofs.Rolling.{Whole}
+use mathlib.Core.Bool.{true}
+use mathlib.Core.Path.{_≡_, ap, _∙_}
+use mathlib.Core.List.{List, _++_}
+use Prim.Native.Nat.{ℕ}
+use lib.ListN.{length, drop}
+use Rattle.sequencer.specs.declared.Sequencer.{Sequencer}
+use Rattle.player.specs.declared.Form.the-variants.{Bytes}
+use Rattle.player.specs.declared.Played.{Played}
+use Rattle.player.specs.Records.{ran}
 use borrow.Author.Needs.{needs}
 use Rattle.player.proofs.play.Statement.{statement}
 use Rattle.player.proofs.play.Tie as tie
 
 returns : tie.Need-returns
 returns c =
-    let a = c .before .before .before .before .before .before .before .before .before .before .args in
-    let r = c .before .before .before .run in
-    subst (λ (x : List Float). Whole (playedInto (a .pool .now) (a .tape .now) x (length (a .out .now))) (a .out .now) (r .last .1 .1 .1 .0) (r .result)) (c .before .before .before .before .before .before .silence .ensures) (r .ensures)
+    let a = c .before .before .before .before .before .before .before .before .args in
+    let out = a .out .now in
+    let n = c .before .before .run .result .used in
+    let e = c .before .before .before .before .start .ensures in
+    let g = c .before .before .run .ensures in (
+      ap (λ (p : Played). p .used) (g .0) ∙ ap (λ (s : Sequencer). length (ran Bytes (a .pool .now) (a .tape .now) true s (record { at = 0; first = true }) (length out) .written)) e,
+      g .1 ∙ ap (λ (s : Sequencer). ran Bytes (a .pool .now) (a .tape .now) true s (record { at = 0; first = true }) (length out) .written ++ drop n out) e,
+    )
 
 pub play-spec : {M : Type 1} → statement M
-play-spec = tie.close (tie.spec (λ c κs. search needs) (λ c. search needs) (λ c κs. search needs) (λ c. search needs) returns)
+play-spec =
+    tie.close
+    (tie.spec (λ c κs. search needs) (λ c κs. search needs) (λ c. search needs) returns)

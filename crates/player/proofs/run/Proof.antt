@@ -11,14 +11,14 @@ use native.Mathlib.Nat.{mul-le-mul, sub-zero}
 use native.Mathlib.Omega.{arith}
 use lib.Ieee.{Float, ofBits}
 use lib.ListN.{length, getD, set, take, drop, replicate}
-use lib.Seq.{length-take-le, take-at}
+use lib.Dec.{ltb}
+use lib.Seq.{length-take-le, take-at, length-sets}
 use denote.Ref.{now}
 use denote.Enum.Declared.{tagOf}
 use types.Run.{OneOf}
 use Rattle.event.specs.declared.MixOrder.the-variants.{Forward}
 use Rattle.event.specs.Events.{blank}
 use Rattle.floats.specs.Arithmetic.{zeroᶠ, _<ᶠ_}
-use Rattle.listing.specs.Putting.{same-long}
 use Rattle.lists.specs.declared.Found.the-variants.{At, Nothing}
 use Rattle.lists.specs.Search.{shift}
 use Rattle.lists.specs.Index.{foundId, isId, noId}
@@ -28,6 +28,7 @@ use Rattle.mixing.specs.Blocks.{clearedPlaces}
 use Rattle.sequencer.specs.declared.Sequencer.{Sequencer}
 use Rattle.sequencer.specs.Parts.{withReady, withEdits, withTimes}
 use Rattle.sequencer.specs.Edits.{indexOf}
+use Rattle.sequencer.specs.Readers.{countsOf}
 use Rattle.sequencer.specs.Moves.{poppedReady, readyToActive, activeToPast, heldAt, toReady}
 use Rattle.sequencer.specs.Rounds.{RisingIn, rising-in, rising-in-on, risen-in-root, risen-in-stop, full, lastPlace, lastOf, SinkingIn, sinking-in, sinking-in-on, sunk-in-end, sunk-in-stop}
 use Rattle.sequencer.specs.Turns.{Activating, Taking, activating-room, activating-full, Finishing, finishing-on, finishing-room, finishing-full, Readying, readying-on, readied-all, Rewinding, rewinding-start, rewinding-on, rewound-all}
@@ -40,11 +41,17 @@ use Rattle.apply.specs.declared.Applied.{Applied}
 use Rattle.apply.specs.Applying.{silent, appliedTo, appliedOut}
 use Rattle.plans.specs.declared.Clock.{Clock}
 use Rattle.plans.specs.declared.Plan.{Plan}
+use Rattle.plans.specs.declared.Step.{Step}
 use Rattle.plans.specs.Plans.{planOf}
 use Rattle.plans.specs.Sounding.{soundedEvent, soundedRow, writtenTo}
-use Rattle.player.proofs.Rolling.{Rolling, isRecord, start, moves, ends-unread, ends-refused, ends-full, goes-on, goes-on-silent, sound-length}
+use Rattle.player.specs.declared.lines.Left.{Left}
+use Rattle.player.specs.Lines.{roomFor, silentLeft}
+use Rattle.player.specs.Records.{ending}
+use Rattle.player.proofs.Puts.{sound-length}
+use Rattle.player.proofs.Rolling.{Rolling, Resting, isRecord, start, moves, same-out, rests, same-rest, roomy, ends-refused, ends-short, ends-unread, ends-full-lines, ends-full-bytes, goes-on, goes-on-silent}
 use Rattle.player.proofs.Meaning.{Means, Renders, means, advancedIn, passIn, renderedIn, rowIn, heardIn}
-use Rattle.player.proofs.Arms.{entered-active, entered-ready, pushed-beside, popped-beside, counted-few, seeking-edit, seeking-id, starts-true, starts-false, taken-is, taking-at, taking-no, child-is, child-between, within-true, within-false, amended-active, amended-past, stored-at, stored-last, stored-nowhere, cleared, rewound-few, requeued, passing-moved, begun, advanced-by}
+use Rattle.player.proofs.Arms.{entered-active, entered-ready, pushed-beside, popped-beside, counted-few, seeking-edit, seeking-id, starts-true, starts-false, taken-is, taking-at, taking-no, child-is, child-between, within-true, within-false, amended-active, amended-past}
+use Rattle.player.proofs.Arms.{stored-at, stored-last, stored-nowhere, accepted-active, accepted-past, accepted-at, accepted-last, refused-nowhere, cleared, rewound-few, requeued, passing-moved, begun, advanced-by}
 use Rattle.player.proofs.run.Statement.{statement}
 use Rattle.player.proofs.run.Tie as tie
 
@@ -72,139 +79,169 @@ clockWith s h = record {
 }
 
 abbrev Inv-loop2 : tie.InvT-loop2
-Inv-loop2 tape pool samples out s₀ edits cursor at event n i₀ s i = (s₀ .«ready_len» < 256) × RisingIn s₀ event i s
+Inv-loop2 tape whole pool form out s₀ edits cursor samples left at kind event n i₀ s i = (s₀ .«ready_len» < 256) × RisingIn s₀ event i s
 
 abbrev μ-loop2 : tie.MeasureT-loop2
-μ-loop2 tape pool samples out s₀ edits cursor at event n i₀ s i = i
+μ-loop2 tape whole pool form out s₀ edits cursor samples left at kind event n i₀ s i = i
 
 abbrev Inv-loop4 : tie.InvT-loop4
-Inv-loop4 tape pool samples out s edits cursor at step first id event known j₀ j = (known ≤ 256) × Seeking noEdit (isEdit id) known (edits .items) j (placed edits id)
+Inv-loop4 tape whole pool form out s edits cursor samples left at kind step first id event known j₀ j = (known ≤ 256) × Seeking noEdit (isEdit id) known (edits .items) j (placed edits id)
 
 abbrev μ-loop4 : tie.MeasureT-loop4
-μ-loop4 tape pool samples out s edits cursor at step first id event known j₀ j = known - j
+μ-loop4 tape whole pool form out s edits cursor samples left at kind step first id event known j₀ j = known - j
 
 abbrev Inv-loop5 : tie.InvT-loop5
-Inv-loop5 tape pool samples out s edits₀ cursor at step id event known j₀ m edits j = (m < 256) × Shifting noEdit m (edits .items) j (shift noEdit (m - j₀) (edits₀ .items) j₀)
+Inv-loop5 tape whole pool form out s edits₀ cursor samples left at kind step id event known j₀ m edits j = (m < 256) × Shifting noEdit m (edits .items) j (shift noEdit (m - j₀) (edits₀ .items) j₀)
 
 abbrev μ-loop5 : tie.MeasureT-loop5
-μ-loop5 tape pool samples out s edits₀ cursor at step id event known j₀ m edits j = m - j
+μ-loop5 tape whole pool form out s edits₀ cursor samples left at kind step id event known j₀ m edits j = m - j
 
 abbrev Inv-loop6 : tie.InvT-loop6
-Inv-loop6 tape pool samples out s₀ edits cursor at step id event known j m last i₀ s i = (m < 256) × SinkingIn s₀ i s
+Inv-loop6 tape whole pool form out s₀ edits cursor samples left at kind step id event known j m last i₀ s i = (m < 256) × SinkingIn s₀ i s
 
 abbrev μ-loop6 : tie.MeasureT-loop6
-μ-loop6 tape pool samples out s₀ edits cursor at step id event known j m last i₀ s i = m - i
+μ-loop6 tape whole pool form out s₀ edits cursor samples left at kind step id event known j m last i₀ s i = m - i
 
 abbrev Inv-loop3 : tie.InvT-loop3
-Inv-loop3 tape pool samples out s₀ edits₀ cursor at step s edits = Activating (withEdits s edits) (readyToActive (withEdits s₀ edits₀))
+Inv-loop3 tape whole pool form out s₀ edits₀ cursor samples left at kind step s edits = Activating (withEdits s edits) (readyToActive (withEdits s₀ edits₀))
 
 abbrev μ-loop3 : tie.MeasureT-loop3
-μ-loop3 tape pool samples out s₀ edits₀ cursor at step s edits = s .«ready_len»
+μ-loop3 tape whole pool form out s₀ edits₀ cursor samples left at kind step s edits = s .«ready_len»
 
 abbrev Inv-loop7 : tie.InvT-loop7
-Inv-loop7 tape pool samples out s₀ edits cursor at step i₀ s i = Finishing (step .limit) (withEdits s edits) i (activeToPast (withEdits s₀ edits) (step .limit))
+Inv-loop7 tape whole pool form out s₀ edits cursor samples left at kind step i₀ s i = Finishing (step .limit) (withEdits s edits) i (activeToPast (withEdits s₀ edits) (step .limit))
 
 abbrev μ-loop7 : tie.MeasureT-loop7
-μ-loop7 tape pool samples out s₀ edits cursor at step i₀ s i = s .«active_len» - i
+μ-loop7 tape whole pool form out s₀ edits cursor samples left at kind step i₀ s i = s .«active_len» - i
 
 abbrev Inv-loop8 : tie.InvT-loop8
-Inv-loop8 tape pool samples out s₀ edits cursor at step i m w mix₀ k₀ s mix k =
+Inv-loop8 tape whole pool form out s₀ edits cursor samples left at kind step i m w mix₀ k₀ s mix k =
     Passing (soundedEvent step) (soundedRow pool step) (replicate (clearedPlaces (step .size)) zeroᶠ) Forward (withEdits s₀ edits) m k (withEdits s edits) (take w mix) × (length mix ≡ 64)
 
 abbrev μ-loop8 : tie.MeasureT-loop8
-μ-loop8 tape pool samples out s₀ edits cursor at step i m w mix₀ k₀ s mix k = m - k
+μ-loop8 tape whole pool form out s₀ edits cursor samples left at kind step i m w mix₀ k₀ s mix k = m - k
 
 abbrev Inv-loop9 : tie.InvT-loop9
-Inv-loop9 tape pool samples out s edits cursor at id edit sounding i₀ i = (sounding ≤ 256) × Seeking noId (isId id) sounding (s .«active_map») i (foundId (indexOf s) id)
+Inv-loop9 tape whole pool form out s edits cursor samples left at kind id edit sounding i₀ i = (sounding ≤ 256) × Seeking noId (isId id) sounding (s .«active_map») i (foundId (indexOf s) id)
 
 abbrev μ-loop9 : tie.MeasureT-loop9
-μ-loop9 tape pool samples out s edits cursor at id edit sounding i₀ i = sounding - i
+μ-loop9 tape whole pool form out s edits cursor samples left at kind id edit sounding i₀ i = sounding - i
 
 abbrev Inv-loop10 : tie.InvT-loop10
-Inv-loop10 tape pool samples out s edits cursor at id edit sounding i known j₀ j = (known ≤ 256) × Seeking noEdit (isEdit id) known (edits .items) j (placed edits id)
+Inv-loop10 tape whole pool form out s edits cursor samples left at kind id edit sounding i known j₀ j = (known ≤ 256) × Seeking noEdit (isEdit id) known (edits .items) j (placed edits id)
 
 abbrev μ-loop10 : tie.MeasureT-loop10
-μ-loop10 tape pool samples out s edits cursor at id edit sounding i known j₀ j = known - j
+μ-loop10 tape whole pool form out s edits cursor samples left at kind id edit sounding i known j₀ j = known - j
 
 abbrev Inv-loop12 : tie.InvT-loop12
-Inv-loop12 tape pool samples out s₀ edits cursor at after past held k event n j₀ s j = (n < 256) × RisingIn s₀ event j s
+Inv-loop12 tape whole pool form out s₀ edits cursor samples left at kind after past held k event n j₀ s j = (n < 256) × RisingIn s₀ event j s
 
 abbrev μ-loop12 : tie.MeasureT-loop12
-μ-loop12 tape pool samples out s₀ edits cursor at after past held k event n j₀ s j = j
+μ-loop12 tape whole pool form out s₀ edits cursor samples left at kind after past held k event n j₀ s j = j
 
 abbrev Inv-loop11 : tie.InvT-loop11
-Inv-loop11 tape pool samples out s₀ edits cursor at after past held k₀ s k = (past ≤ 256) × (held ≤ past + 256) × Readying held past k (withEdits s edits) (toReady held past 0 (withEdits s₀ edits))
+Inv-loop11 tape whole pool form out s₀ edits cursor samples left at kind after past held k₀ s k = (past ≤ 256) × (held ≤ past + 256) × Readying held past k (withEdits s edits) (toReady held past 0 (withEdits s₀ edits))
 
 abbrev μ-loop11 : tie.MeasureT-loop11
-μ-loop11 tape pool samples out s₀ edits cursor at after past held k₀ s k = held - k
+μ-loop11 tape whole pool form out s₀ edits cursor samples left at kind after past held k₀ s k = held - k
 
 abbrev Inv-loop13 : tie.InvT-loop13
-Inv-loop13 tape pool samples out s₀ edits cursor at after past held k₁ waiting k₀ s k = (waiting ≤ 256) × Rewinding (withEdits s₀ edits) waiting k (withEdits s edits)
+Inv-loop13 tape whole pool form out s₀ edits cursor samples left at kind after past held k₁ waiting k₀ s k = (waiting ≤ 256) × Rewinding (withEdits s₀ edits) waiting k (withEdits s edits)
 
 abbrev μ-loop13 : tie.MeasureT-loop13
-μ-loop13 tape pool samples out s₀ edits cursor at after past held k₁ waiting k₀ s k = waiting - k
+μ-loop13 tape whole pool form out s₀ edits cursor samples left at kind after past held k₁ waiting k₀ s k = waiting - k
 
 abbrev Inv-loop : tie.InvT-loop
-Inv-loop tape pool samples₀ out₀ s₀ edits₀ cursor₀ at₀ samples out s edits cursor at = Rolling pool tape out₀ out samples₀ samples (withEdits s edits) cursor at
+Inv-loop tape whole pool form out₀ s₀ edits₀ cursor₀ samples₀ left₀ at₀ out s edits cursor samples left at = Rolling form pool tape whole s₀ cursor₀ out₀ out (withEdits s edits) cursor samples left at
 
 abbrev μ-loop : tie.MeasureT-loop
-μ-loop tape pool samples₀ out₀ s₀ edits₀ cursor₀ at₀ samples out s edits cursor at = length tape - cursor .at
+μ-loop tape whole pool form out₀ s₀ edits₀ cursor₀ samples₀ left₀ at₀ out s edits cursor samples left at = length tape - cursor .at
+
+-- ---- the last record's part has been put
+
+rested : (c : tie.After-leave Inv-loop2 μ-loop2 Inv-loop4 μ-loop4 Inv-loop5 μ-loop5 Inv-loop6 μ-loop6 Inv-loop3 μ-loop3 Inv-loop7 μ-loop7 Inv-loop8 μ-loop8 Inv-loop9 μ-loop9 Inv-loop10 μ-loop10 Inv-loop12 μ-loop12 Inv-loop11 μ-loop11 Inv-loop13 μ-loop13 Inv-loop μ-loop) → (let l = c .before .before .before .loop in let a = c
+    .before .before .before .before .before .before .before .before .before .before .args in
+    Resting (a .form) (a .pool .now) (a .tape .now) (a .whole) (a .sequencer) (a .cursor) (a .out .now) (c .leave .last .1 .1 .1 .1 .0) (withEdits (l .s) (l .edits)) (l .cursor) (l .samples) (l .left) (c .leave .result))
+rested c = let e = c .leave .ensures in rests _ _ _ _ _ _ _ (c .before .before .before .loop .inv) (e .0) (e .1 .0) (e .1 .1)
+
+-- a record's refusal, and the samples of a step
+abbrev withRefusal : ℕ → Left → Left
+withRefusal n z = record { any = z .any; kind = z .kind; refusal = n; channels = z .channels; each = z .each; stride = z .stride }
+
+abbrev withSamples : Step → Left → Left
+withSamples b z = record { any = z .any; kind = z .kind; refusal = z .refusal; channels = b .channels; each = b .size; stride = b .stride }
 
 -- ---- the record that was read, and what its plan means
 
-reads : (c : tie.After-plan-of Inv-loop2 μ-loop2 Inv-loop4 μ-loop4 Inv-loop5 μ-loop5 Inv-loop6 μ-loop6 Inv-loop3 μ-loop3 Inv-loop7 μ-loop7 Inv-loop8 μ-loop8 Inv-loop9 μ-loop9 Inv-loop10 μ-loop10 Inv-loop12 μ-loop12 Inv-loop11 μ-loop11 Inv-loop13 μ-loop13 Inv-loop μ-loop) → (let v = c .before .before .before .r .given .0 in readAt (c
-    .before .before .before .before .before .before .before .before .before .before .before .before .before .args .tape .now)
-    (c .before .before .before .before .before .before .loop .cursor) ≡ Record (v .0) (v .1 .0) (v .1 .1 .0))
+reads : (c : tie.After-plan-of Inv-loop2 μ-loop2 Inv-loop4 μ-loop4 Inv-loop5 μ-loop5 Inv-loop6 μ-loop6 Inv-loop3 μ-loop3 Inv-loop7 μ-loop7 Inv-loop8 μ-loop8 Inv-loop9 μ-loop9 Inv-loop10 μ-loop10 Inv-loop12 μ-loop12 Inv-loop11 μ-loop11 Inv-loop13 μ-loop13 Inv-loop μ-loop) → (let v = c .before .before .before .before .before .before .r .given .0 in readAt (c
+    .before .before .before .before .before .before .before .before .before .before .before .before .before .before .before .before .before .before .before .before .before .before .before .before .before .args .tape .now)
+    (c .before .before .before .before .before .before .before .before .before .before .before .before .before .before .before .before .before .before .loop .cursor) ≡ Record (v .0) (v .1 .0) (v .1 .1 .0))
 reads c =
-    sym (c .before .before .before .before .before .read .ensures) ∙ c .before .before .before .r .given .1
+    let c₁ = c .before .before .before .before .before .before .before .before in
+    sym (c₁ .read .ensures) ∙ c .before .before .before .before .before .before .r .given .1
 
 abbrev Called : (c : tie.After-plan-of Inv-loop2 μ-loop2 Inv-loop4 μ-loop4 Inv-loop5 μ-loop5 Inv-loop6 μ-loop6 Inv-loop3 μ-loop3 Inv-loop7 μ-loop7 Inv-loop8 μ-loop8 Inv-loop9 μ-loop9 Inv-loop10 μ-loop10 Inv-loop12 μ-loop12 Inv-loop11 μ-loop11 Inv-loop13 μ-loop13 Inv-loop μ-loop) → Plan → Type 0
 Called c p =
-    let c₁ = c .before .before .before .before .before .before .before .before .before .before .before .before .before in
-    let l = c .before .before .before .before .before .before .loop in
-    let a = c₁ .args in
-    let call = c .before .before .before .r .given .0 .1 .0 in
+    let c₁ = c .before .before .before .before .before .before .before .before .before .before .before .before .before .before .before in
+    let c₂ = c₁ .before .before .before .before .before .before .before .before .before .before in
+    let l = c₁ .before .before .before .loop in
+    let a = c₂ .args in
+    let call = c .before .before .before .before .before .before .r .given .0 .1 .0 in
     let s = withEdits (l .s) (l .edits) in
-    Means (a .pool .now) s (appliedTo (a .pool .now) s call (l .samples)) (l .samples) (appliedOut (a .pool .now) s call (l .samples)) (length (a .out .now) - l .at) p
+    Means (a .pool .now) s (appliedTo (a .pool .now) s call (l .samples)) (l .samples) (appliedOut (a .pool .now) s call (l .samples)) (length (a .out .now) - c₁ .leave .result) p
 
 meant : (c : tie.After-plan-of Inv-loop2 μ-loop2 Inv-loop4 μ-loop4 Inv-loop5 μ-loop5 Inv-loop6 μ-loop6 Inv-loop3 μ-loop3 Inv-loop7 μ-loop7 Inv-loop8 μ-loop8 Inv-loop9 μ-loop9 Inv-loop10 μ-loop10 Inv-loop12 μ-loop12 Inv-loop11 μ-loop11 Inv-loop13 μ-loop13 Inv-loop μ-loop) → Called c (c .plan-of .result)
 meant c =
-    let c₁ = c .before .before .before .before .before .before .before .before .before .before .before .before .before in
-    let l = c .before .before .before .before .before .before .loop in
-    let a = c₁ .args in
-    let call = c .before .before .before .r .given .0 .1 .0 in
+    let c₁ = c .before .before .before .before .before .before .before .before .before .before .before .before .before .before .before in
+    let c₂ = c₁ .before .before .before .before .before .before .before .before .before .before in
+    let l = c₁ .before .before .before .loop in
+    let a = c₂ .args in
+    let call = c .before .before .before .before .before .before .r .given .0 .1 .0 in
     let s = withEdits (l .s) (l .edits) in
-    let long = same-long (l .inv .put) in
-    subst (Called c) (sym (c .plan-of .ensures ∙ (λ i. planOf call (clockWith s (c .before .held .ensures i)) (long i - l .at))))
-    (means (a .pool .now) s (l .samples) (length (a .out .now) - l .at) (l .inv .long) call)
+    let at = c₁ .leave .result in
+    let long = same-rest _ _ _ _ _ _ _ (rested c₁) in
+    subst (Called c) (sym (c .plan-of .ensures ∙ (λ i. planOf call (clockWith s (c .before .held .ensures i)) (long i - at))))
+    (means (a .pool .now) s (l .samples) (length (a .out .now) - at) (l .inv .long) call)
 
 told : (c : tie.After-plan-of Inv-loop2 μ-loop2 Inv-loop4 μ-loop4 Inv-loop5 μ-loop5 Inv-loop6 μ-loop6 Inv-loop3 μ-loop3 Inv-loop7 μ-loop7 Inv-loop8 μ-loop8 Inv-loop9 μ-loop9 Inv-loop10 μ-loop10 Inv-loop12 μ-loop12 Inv-loop11 μ-loop11 Inv-loop13 μ-loop13 Inv-loop μ-loop) {p : Plan} → c .plan-of .result ≡ p → Called c p
 told c e = subst (Called c) e (meant c)
 
 -- the next record is nearer to the tape's end
 less : (c : tie.After-plan-of Inv-loop2 μ-loop2 Inv-loop4 μ-loop4 Inv-loop5 μ-loop5 Inv-loop6 μ-loop6 Inv-loop3 μ-loop3 Inv-loop7 μ-loop7 Inv-loop8 μ-loop8 Inv-loop9 μ-loop9 Inv-loop10 μ-loop10 Inv-loop12 μ-loop12 Inv-loop11 μ-loop11 Inv-loop13 μ-loop13 Inv-loop μ-loop) →
-    (let t = c .before .before .before .before .before .before .before .before .before .before .before .before .before .args .tape .now in length t - c .before .before .before .r .given .0 .1 .1 .0 .at < length t - c .before .before .before .before .before .before .loop .cursor .at)
+    (let t = c .before .before .before .before .before .before .before .before .before .before .before .before .before .before .before .before .before .before .before .before .before .before .before .before .before .args .tape .now in length t - c .before .before .before .before .before .before .r .given .0 .1 .1 .0 .at < length t - c
+    .before .before .before .before .before .before .before .before .before .before .before .before .before .before .before .before .before .before .loop .cursor .at)
 less c =
     let m = moves _ _ _ _ _ (reads c) in
     let p = m .0 in
     let q = m .1 in
     omega arith
 
+roomy-in : (c : tie.After-plan-of Inv-loop2 μ-loop2 Inv-loop4 μ-loop4 Inv-loop5 μ-loop5 Inv-loop6 μ-loop6 Inv-loop3 μ-loop3 Inv-loop7 μ-loop7 Inv-loop8 μ-loop8 Inv-loop9 μ-loop9 Inv-loop10 μ-loop10 Inv-loop12 μ-loop12 Inv-loop11 μ-loop11 Inv-loop13 μ-loop13 Inv-loop μ-loop) → (let a = c
+    .before .before .before .before .before .before .before .before .before .before .before .before .before .before .before .before .before .before .before .before .before .before .before .before .before .args in ltb (length (a .out .now) - c
+    .before .before .before .before .before .before .before .before .before .before .before .before .before .before .before .leave .result) (roomFor (a .form) []) ≡ false)
+roomy-in c =
+    let c₁ = c .before .before .before .before .before .before .before .before .before .before .before .before .before .before .before in
+    roomy _ _ _ _ _ _ _ (rested c₁) (sym (c .before .before .before .before .is-full .ensures) ∙ c .before .before .before .if3 .left)
+
 -- a record without samples leaves x in the place of the engine
 on-silent : (c : tie.After-plan-of Inv-loop2 μ-loop2 Inv-loop4 μ-loop4 Inv-loop5 μ-loop5 Inv-loop6 μ-loop6 Inv-loop3 μ-loop3 Inv-loop7 μ-loop7 Inv-loop8 μ-loop8 Inv-loop9 μ-loop9 Inv-loop10 μ-loop10 Inv-loop12 μ-loop12 Inv-loop11 μ-loop11 Inv-loop13 μ-loop13 Inv-loop μ-loop) {s : Sequencer} {n : ℕ}
-    → (let l = c .before .before .before .before .before .before .loop in let a = c .before .before .before .before .before .before .before .before .before .before .before .before .before .args in let v = c .before .before .before .r .given .0 in let y = withEdits (l .s) (l .edits) in
-    appliedTo (a .pool .now) y (v .1 .0) (l .samples) ≡ silent s n → appliedOut (a .pool .now) y (v .1 .0) (l .samples) ≡ l .samples → (n ≡ 1 → ⊥) → (x : Sequencer) → x ≡ s
-    → Rolling (a .pool .now) (a .tape .now) (a .out .now) (l .out) (a .samples .now) (l .samples) x (v .1 .1 .0) (l .at))
-on-silent c =
-    let v = c .before .before .before .r .given .0 in
-    goes-on-silent (c .before .before .before .before .before .before .loop .inv) (v .0) (v .1 .0) (v .1 .1 .0) (reads c)
+    → (let l = c .before .before .before .before .before .before .before .before .before .before .before .before .before .before .before .before .before .before .loop in let a = c
+    .before .before .before .before .before .before .before .before .before .before .before .before .before .before .before .before .before .before .before .before .before .before .before .before .before .args in let v = c .before .before .before .before .before .before .r .given .0 in let y = withEdits (l .s) (l .edits) in
+    appliedTo (a .pool .now) y (v .1 .0) (l .samples) ≡ silent s n → appliedOut (a .pool .now) y (v .1 .0) (l .samples) ≡ l .samples
+    → (left : Left) → left ≡ withRefusal n (silentLeft (v .0)) → (x : Sequencer) → x ≡ s
+    → Rolling (a .form) (a .pool .now) (a .tape .now) (a .whole) (a .sequencer) (a .cursor) (a .out .now) (c .before .before .before .before .before .before .before .before .before .before .before .before .before .before .before .leave .last .1 .1 .1 .1 .0) x (v .1 .1 .0) (l .samples) left (c
+    .before .before .before .before .before .before .before .before .before .before .before .before .before .before .before .leave .result))
+on-silent c p q =
+    let c₁ = c .before .before .before .before .before .before .before .before .before in
+    let v = c .before .before .before .before .before .before .r .given .0 in
+    goes-on-silent _ _ _ _ _ _ _ (rested (c₁ .before .before .before .before .before .before)) (c₁ .before .before .if1 .left) (sym (c₁ .before .is-short .ensures) ∙ c₁ .if2 .left) (v .0) (v .1 .0) (v .1 .1 .0) (reads c) p q (roomy-in c)
 
 -- ---- a tick or block
 
 -- the heap's first starts
-started : (c : tie.Else2 Inv-loop2 μ-loop2 Inv-loop4 μ-loop4 Inv-loop5 μ-loop5 Inv-loop6 μ-loop6 Inv-loop3 μ-loop3 Inv-loop7 μ-loop7 Inv-loop8 μ-loop8 Inv-loop9 μ-loop9 Inv-loop10 μ-loop10 Inv-loop12 μ-loop12 Inv-loop11 μ-loop11 Inv-loop13 μ-loop13 Inv-loop μ-loop) → (let s = c .before .before .before .loop3 .s in (0 < s .«ready_len») × (s .«ready_len» ≤
+started : (c : tie.Else5 Inv-loop2 μ-loop2 Inv-loop4 μ-loop4 Inv-loop5 μ-loop5 Inv-loop6 μ-loop6 Inv-loop3 μ-loop3 Inv-loop7 μ-loop7 Inv-loop8 μ-loop8 Inv-loop9 μ-loop9 Inv-loop10 μ-loop10 Inv-loop12 μ-loop12 Inv-loop11 μ-loop11 Inv-loop13 μ-loop13 Inv-loop μ-loop) → (let s = c .before .before .before .loop3 .s in (0 < s .«ready_len») × (s .«ready_len» ≤
     256) × ((getD (s .ready) 0 blank .«start_time» <ᶠ s .«active_threshold») ≡ true))
-started c = starts-true _ _ _ (sym (c .before .starts .ensures) ∙ not-false _ (c .if2 .left))
+started c = starts-true _ _ _ (sym (c .before .starts .ensures) ∙ not-false _ (c .if5 .left))
 
 sought-edit : (c : tie.Left-loop4 Inv-loop2 μ-loop2 Inv-loop4 μ-loop4 Inv-loop5 μ-loop5 Inv-loop6 μ-loop6 Inv-loop3 μ-loop3 Inv-loop7 μ-loop7 Inv-loop8 μ-loop8 Inv-loop9 μ-loop9 Inv-loop10 μ-loop10 Inv-loop12 μ-loop12 Inv-loop11 μ-loop11 Inv-loop13 μ-loop13 Inv-loop μ-loop) → (let l = c .before .loop4 in let m = c
     .before .before .before .before .before .before .before .loop3 .edits in let k = getD (c .before .before .before .before .before .before .before .loop3 .s .ready) 0 blank .id in
@@ -220,8 +257,8 @@ sought-edit c =
     (λ w. ((λ h. sought noEdit (isEdit k) n (m .items) (l .j) (placed m k) h (eq-eqb _ _ (w .5 .taken)) (l .inv .1)), (λ h. absurd (omega (arith, w .0 .taken, h)))))
     (c .loop4-test .came)
 
-taking : (c : tie.Joined4 Inv-loop2 μ-loop2 Inv-loop4 μ-loop4 Inv-loop5 μ-loop5 Inv-loop6 μ-loop6 Inv-loop3 μ-loop3 Inv-loop7 μ-loop7 Inv-loop8 μ-loop8 Inv-loop9 μ-loop9 Inv-loop10 μ-loop10 Inv-loop12 μ-loop12 Inv-loop11 μ-loop11 Inv-loop13 μ-loop13 Inv-loop μ-loop) → (let s = c .before .before .before .before .before .before .before .before .loop3 .s in
-    Taking (withEdits s (c .before .before .before .before .before .before .before .before .loop3 .edits)) (getD (s .ready) 0 blank) (withEdits s (c .if4 .edits)) (c .if4 .event))
+taking : (c : tie.Joined7 Inv-loop2 μ-loop2 Inv-loop4 μ-loop4 Inv-loop5 μ-loop5 Inv-loop6 μ-loop6 Inv-loop3 μ-loop3 Inv-loop7 μ-loop7 Inv-loop8 μ-loop8 Inv-loop9 μ-loop9 Inv-loop10 μ-loop10 Inv-loop12 μ-loop12 Inv-loop11 μ-loop11 Inv-loop13 μ-loop13 Inv-loop μ-loop) → (let s = c .before .before .before .before .before .before .before .before .loop3 .s in
+    Taking (withEdits s (c .before .before .before .before .before .before .before .before .loop3 .edits)) (getD (s .ready) 0 blank) (withEdits s (c .if7 .edits)) (c .if7 .event))
 taking c =
     let c₁ = c .before .before .before .before .before .before .before .before in
     let s = c₁ .loop3 .s in
@@ -230,9 +267,9 @@ taking c =
     let q = sought-edit (c .before) in
     ⊎-elim
     (λ w. taken-is s m f (w .6) (w .7) (taking-at s m f (c .before .before .before .counted .ensures) (w .0 .taken) (q .0 (w .0 .taken)) (shifted noEdit _ _ _ _ (w .5 .left) (w .4 .inv .1)) (w .3 .ensures)))
-    (λ w. taken-is s m f (w .1) (w .2) (taking-no s m f (q .1 (w .0 .left)))) (c .if4 .came)
+    (λ w. taken-is s m f (w .1) (w .2) (taking-no s m f (q .1 (w .0 .left)))) (c .if7 .came)
 
-sized : (c : tie.Joined4 Inv-loop2 μ-loop2 Inv-loop4 μ-loop4 Inv-loop5 μ-loop5 Inv-loop6 μ-loop6 Inv-loop3 μ-loop3 Inv-loop7 μ-loop7 Inv-loop8 μ-loop8 Inv-loop9 μ-loop9 Inv-loop10 μ-loop10 Inv-loop12 μ-loop12 Inv-loop11 μ-loop11 Inv-loop13 μ-loop13 Inv-loop μ-loop) → (0 < c .before .before .before .before .before .before .before .before .loop3 .s
+sized : (c : tie.Joined7 Inv-loop2 μ-loop2 Inv-loop4 μ-loop4 Inv-loop5 μ-loop5 Inv-loop6 μ-loop6 Inv-loop3 μ-loop3 Inv-loop7 μ-loop7 Inv-loop8 μ-loop8 Inv-loop9 μ-loop9 Inv-loop10 μ-loop10 Inv-loop12 μ-loop12 Inv-loop11 μ-loop11 Inv-loop13 μ-loop13 Inv-loop μ-loop) → (0 < c .before .before .before .before .before .before .before .before .loop3 .s
     .«ready_len») × (c .before .before .before .before .before .before .before .before .loop3 .s .«ready_len» ≤ 256)
 sized c = let h = started (c .before .before .before .before .before) in (h .0, h .1)
 
@@ -250,126 +287,168 @@ popped c =
     (λ w. sunk-in-stop (k .0) (k .1) (child-is (l .s .ready) _ _ _ (w .3 .ensures)) refl (sym (w .5 .ensures) ∙ not-true _ (w .6 .taken)) (l .inv .1)) (c .loop6-test .came)
 
 popped-in : (c : tie.Left-loop6 Inv-loop2 μ-loop2 Inv-loop4 μ-loop4 Inv-loop5 μ-loop5 Inv-loop6 μ-loop6 Inv-loop3 μ-loop3 Inv-loop7 μ-loop7 Inv-loop8 μ-loop8 Inv-loop9 μ-loop9 Inv-loop10 μ-loop10 Inv-loop12 μ-loop12 Inv-loop11 μ-loop11 Inv-loop13 μ-loop13 Inv-loop μ-loop)
-    → (let l = c .before .loop6 in let t = c .before .before .before .before .before .before .before .before .before .before .before .loop3 .s in let m = c .before .before .before .if4 .edits in withEdits (withReady (l .s) (set (l .s .ready) (l .i) (lastOf t)) (lastPlace t)) m ≡ poppedReady (withEdits t m))
+    → (let l = c .before .loop6 in let t = c .before .before .before .before .before .before .before .before .before .before .before .loop3 .s in let m = c .before .before .before .if7 .edits in withEdits (withReady (l .s) (set (l .s .ready) (l .i) (lastOf t)) (lastPlace t)) m ≡ poppedReady (withEdits t m))
 popped-in c =
     let c₁ = c .before .before .before .before .before .before .before .before .before .before .before in
-    ap (λ (y : Sequencer). withEdits y (c .before .before .before .if4 .edits)) (popped c) ∙ popped-beside (c₁ .loop3 .s) (c .before .before .before .if4 .edits)
+    ap (λ (y : Sequencer). withEdits y (c .before .before .before .if7 .edits)) (popped c) ∙ popped-beside (c₁ .loop3 .s) (c .before .before .before .if7 .edits)
 
 -- place i holds an event
-inside : (c : tie.Then7 Inv-loop2 μ-loop2 Inv-loop4 μ-loop4 Inv-loop5 μ-loop5 Inv-loop6 μ-loop6 Inv-loop3 μ-loop3 Inv-loop7 μ-loop7 Inv-loop8 μ-loop8 Inv-loop9 μ-loop9 Inv-loop10 μ-loop10 Inv-loop12 μ-loop12 Inv-loop11 μ-loop11 Inv-loop13 μ-loop13 Inv-loop μ-loop) → (c .before .before .loop7 .i < c .before .before .loop7 .s .«active_len») × (c
+inside : (c : tie.Then10 Inv-loop2 μ-loop2 Inv-loop4 μ-loop4 Inv-loop5 μ-loop5 Inv-loop6 μ-loop6 Inv-loop3 μ-loop3 Inv-loop7 μ-loop7 Inv-loop8 μ-loop8 Inv-loop9 μ-loop9 Inv-loop10 μ-loop10 Inv-loop12 μ-loop12 Inv-loop11 μ-loop11 Inv-loop13 μ-loop13 Inv-loop μ-loop) → (c .before .before .loop7 .i < c .before .before .loop7 .s .«active_len») × (c
     .before .before .loop7 .s .«active_len» ≤ 256)
-inside c = within-true _ _ (sym (c .before .within .ensures) ∙ c .if7 .taken)
+inside c = within-true _ _ (sym (c .before .within .ensures) ∙ c .if10 .taken)
 
 -- the lists have changed, and the clock
-advanced-to : (c : tie.Else7 Inv-loop2 μ-loop2 Inv-loop4 μ-loop4 Inv-loop5 μ-loop5 Inv-loop6 μ-loop6 Inv-loop3 μ-loop3 Inv-loop7 μ-loop7 Inv-loop8 μ-loop8 Inv-loop9 μ-loop9 Inv-loop10 μ-loop10 Inv-loop12 μ-loop12 Inv-loop11 μ-loop11 Inv-loop13 μ-loop13 Inv-loop μ-loop) → (let b = c
-    .before .before .before .before .before .before .before .before .before .before .plan3 .given .0 .0 in let u = withEdits (c .before .before .loop7 .s) (c .before .before .before .before .before .before .loop3 .edits) in withTimes u (b .end) (u .«active_threshold») ≡ advancedIn b (withEdits (c
-    .before .before .before .before .before .before .before .before .before .before .before .before .before .before .before .before .before .before .loop .s) (c .before .before .before .before .before .before .before .before .before .before .before .before .before .before .before .before .before .before .loop .edits)))
+advanced-to : (c : tie.Else10 Inv-loop2 μ-loop2 Inv-loop4 μ-loop4 Inv-loop5 μ-loop5 Inv-loop6 μ-loop6 Inv-loop3 μ-loop3 Inv-loop7 μ-loop7 Inv-loop8 μ-loop8 Inv-loop9 μ-loop9 Inv-loop10 μ-loop10 Inv-loop12 μ-loop12 Inv-loop11 μ-loop11 Inv-loop13 μ-loop13 Inv-loop μ-loop) → (let b = c
+    .before .before .before .before .before .before .before .before .before .before .plan4 .given .0 .0 in let u = withEdits (c .before .before .loop7 .s) (c .before .before .before .before .before .before .loop3 .edits) in withTimes u (b .end) (u .«active_threshold») ≡ advancedIn b (withEdits (c
+    .before .before .before .before .before .before .before .before .before .before .before .before .before .before .before .before .before .before .before .before .before .before .before .before .before .before .before .before .before .before .loop .s) (c
+    .before .before .before .before .before .before .before .before .before .before .before .before .before .before .before .before .before .before .before .before .before .before .before .before .before .before .before .before .before .before .loop .edits)))
 advanced-to c =
     let c₁ = c .before .before .before .before .before .before .before in
-    let c₂ = c₁ .before .before .before .before .before .before .before .before .before .before .before in
-    let b = c₁ .before .before .before .plan3 .given .0 .0 in
+    let c₂ = c₁ .before .before .before .before .before .before .before .before .before .before .before .before .before .before .before .before .before .before .before .before .before .before .before in
+    let b = c₁ .before .before .before .plan4 .given .0 .0 in
     let s = withEdits (c₂ .loop .s) (c₂ .loop .edits) in
     let t = withEdits (c .before .before .before .before .before .before .loop3 .s) (c .before .before .before .before .before .before .loop3 .edits) in
     let u = withEdits (c .before .before .loop7 .s) (c .before .before .before .before .before .before .loop3 .edits) in
     advanced-by b s _ t u (begun b s (c₁ .before .gone .ensures) (c₁ .kept .ensures))
-    (starts-false t _ (sym (c .before .before .before .before .starts .ensures) ∙ not-true _ (c .before .before .before .if2 .taken)) (c .before .before .before .before .before .before .loop3 .inv))
-    (within-false _ u _ _ (sym (c .before .within .ensures) ∙ c .if7 .left) (c .before .before .loop7 .inv))
+    (starts-false t _ (sym (c .before .before .before .before .starts .ensures) ∙ not-true _ (c .before .before .before .if5 .taken)) (c .before .before .before .before .before .before .loop3 .inv))
+    (within-false _ u _ _ (sym (c .before .within .ensures) ∙ c .if10 .left) (c .before .before .loop7 .inv))
 
-renders-in : (c : tie.After-plan3 Inv-loop2 μ-loop2 Inv-loop4 μ-loop4 Inv-loop5 μ-loop5 Inv-loop6 μ-loop6 Inv-loop3 μ-loop3 Inv-loop7 μ-loop7 Inv-loop8 μ-loop8 Inv-loop9 μ-loop9 Inv-loop10 μ-loop10 Inv-loop12 μ-loop12 Inv-loop11 μ-loop11 Inv-loop13 μ-loop13 Inv-loop μ-loop)
-    → (let l = c .before .before .before .before .before .before .before .before .loop in let a = c .before .before .before .before .before .before .before .before .before .before .before .before .before .before .before .args in let call = c .before .before .before .before .before .r .given .0 .1 .0 in let s = withEdits (l .s) (l .edits) in
-    Renders (a .pool .now) s (appliedTo (a .pool .now) s call (l .samples)) (l .samples) (appliedOut (a .pool .now) s call (l .samples)) (length (a .out .now) - l .at) (c .plan3 .given .0 .0))
-renders-in c = told (c .before .before) (c .plan3 .given .1)
+renders-in : (c : tie.After-plan4 Inv-loop2 μ-loop2 Inv-loop4 μ-loop4 Inv-loop5 μ-loop5 Inv-loop6 μ-loop6 Inv-loop3 μ-loop3 Inv-loop7 μ-loop7 Inv-loop8 μ-loop8 Inv-loop9 μ-loop9 Inv-loop10 μ-loop10 Inv-loop12 μ-loop12 Inv-loop11 μ-loop11 Inv-loop13 μ-loop13 Inv-loop μ-loop)
+    → (let l = c .before .before .before .before .before .before .before .before .before .before .before .before .before .before .before .before .before .before .before .before .loop in let a = c
+    .before .before .before .before .before .before .before .before .before .before .before .before .before .before .before .before .before .before .before .before .before .before .before .before .before .before .before .args in let call = c .before .before .before .before .before .before .before .before .r .given .0 .1 .0 in let s = withEdits (l .s) (l
+    .edits) in
+    Renders (a .pool .now) s (appliedTo (a .pool .now) s call (l .samples)) (l .samples) (appliedOut (a .pool .now) s call (l .samples)) (length (a .out .now) - c .before .before .before .before .before .before .before .before .before .before .before .before .before .before .before .before .before .leave .result) (c .plan4 .given .0 .0))
+renders-in c = told (c .before .before) (c .plan4 .given .1)
 
 -- every event has been added
 summed : (c : tie.After-loop8 Inv-loop2 μ-loop2 Inv-loop4 μ-loop4 Inv-loop5 μ-loop5 Inv-loop6 μ-loop6 Inv-loop3 μ-loop3 Inv-loop7 μ-loop7 Inv-loop8 μ-loop8 Inv-loop9 μ-loop9 Inv-loop10 μ-loop10 Inv-loop12 μ-loop12 Inv-loop11 μ-loop11 Inv-loop13 μ-loop13 Inv-loop μ-loop)
-    → (let b = c .before .before .before .before .before .before .before .before .before .before .before .before .before .before .plan3 .given .0 .0 in let s = withEdits (c .before .before .before .before .before .before .before .before .before .before .before .before .before .before .before .before .before .before .before .before .before .before .loop .s)
-    (c .before .before .before .before .before .before .before .before .before .before .before .before .before .before .before .before .before .before .before .before .before .before .loop .edits) in
-    let pool = c .before .before .before .before .before .before .before .before .before .before .before .before .before .before .before .before .before .before .before .before .before .before .before .before .before .before .before .before .before .args .pool .now in
+    → (let b = c .before .before .before .before .before .before .before .before .before .before .before .before .before .before .plan4 .given .0 .0 in let s = withEdits (c
+    .before .before .before .before .before .before .before .before .before .before .before .before .before .before .before .before .before .before .before .before .before .before .before .before .before .before .before .before .before .before .before .before .before .before .loop .s) (c
+    .before .before .before .before .before .before .before .before .before .before .before .before .before .before .before .before .before .before .before .before .before .before .before .before .before .before .before .before .before .before .before .before .before .before .loop .edits) in
+    let pool = c .before .before .before .before .before .before .before .before .before .before .before .before .before .before .before .before .before .before .before .before .before .before .before .before .before .before .before .before .before .before .before .before .before .before .before .before .before .before .before .before .before .args .pool .now in
     (withEdits (c .before .loop8 .s) (c .before .before .before .before .before .before .before .before .before .before .loop3 .edits) ≡ renderedIn pool b s) × (take (c .before .before .cleared-places .result) (c .before .loop8 .mix) ≡ rowIn pool b s))
 summed c =
     passing-end (advanced-to (c .before .before .before .before)) (c .loop8-test .left) (c .before .loop8 .inv .0)
 
 -- the samples are those of the call
 written : (c : tie.After-write Inv-loop2 μ-loop2 Inv-loop4 μ-loop4 Inv-loop5 μ-loop5 Inv-loop6 μ-loop6 Inv-loop3 μ-loop3 Inv-loop7 μ-loop7 Inv-loop8 μ-loop8 Inv-loop9 μ-loop9 Inv-loop10 μ-loop10 Inv-loop12 μ-loop12 Inv-loop11 μ-loop11 Inv-loop13 μ-loop13 Inv-loop μ-loop)
-    → (let l = c .before .before .before .before .before .before .before .before .before .before .before .before .before .before .before .before .before .before .before .before .before .before .before .before .before .before .loop in
-    let a = c .before .before .before .before .before .before .before .before .before .before .before .before .before .before .before .before .before .before .before .before .before .before .before .before .before .before .before .before .before .before .before .before .before .args in c .write .last .1 .1 .0 ≡ appliedOut (a .pool .now) (withEdits (l .s) (l .edits))
-    (c .before .before .before .before .before .before .before .before .before .before .before .before .before .before .before .before .before .before .before .before .before .before .before .r .given .0 .1 .0) (l .samples))
+    → (let l = c .before .before .before .before .before .before .before .before .before .before .before .before .before .before .before .before .before .before .before .before .before .before .before .before .before .before .before .before .before .before .before .before .before .before .before .before .before .before .loop in
+    let a = c
+    .before .before .before .before .before .before .before .before .before .before .before .before .before .before .before .before .before .before .before .before .before .before .before .before .before .before .before .before .before .before .before .before .before .before .before .before .before .before .before .before .before .before .before .before .before .args
+    in c .write .last .1 .1 .0 ≡ appliedOut (a .pool .now) (withEdits (l .s) (l .edits))
+    (c .before .before .before .before .before .before .before .before .before .before .before .before .before .before .before .before .before .before .before .before .before .before .before .before .before .before .r .given .0 .1 .0) (l .samples))
 written c =
     let c₁ = c .before .before .before .before .before .before .before .before .before .before .before .before .before .before .before .before .before .before in
-    let c₂ = c₁ .before .before .before .before .before .before .before .before in
-    let b = c₁ .plan3 .given .0 .0 in
+    let c₂ = c₁ .before .before .before .before .before .before .before .before .before .before .before .before .before .before .before .before .before .before .before .before in
+    let b = c₁ .plan4 .given .0 .0 in
     let q : take (c .before .before .before .before .before .before .cleared-places .result - 0) (c .before .before .before .before .before .loop8 .mix) ≡ take (c .before .before .before .before .before .before .cleared-places .result) (c .before .before .before .before .before .loop8 .mix) = rw sub-zero in
     c .write .ensures ∙ ap (λ (r : List Float). writtenTo b r (c₂ .loop .samples)) (q ∙ summed (c .before .before .before .before) .1) ∙ sym (renders-in c₁ .output)
 
 loop-holds : tie.Need-loop-holds Inv-loop2 μ-loop2 Inv-loop4 μ-loop4 Inv-loop5 μ-loop5 Inv-loop6 μ-loop6 Inv-loop3 μ-loop3 Inv-loop7 μ-loop7 Inv-loop8 μ-loop8 Inv-loop9 μ-loop9 Inv-loop10 μ-loop10 Inv-loop12 μ-loop12 Inv-loop11 μ-loop11 Inv-loop13 μ-loop13 Inv-loop μ-loop
-loop-holds c = start _ _ _ _ _ (c .before .start .ensures) (c .before .before .before .before .before .before .pre)
+loop-holds c = start _ _ _ _ _ _ _ _ (c .before .silence .ensures) _ (c .nothing .ensures)
+
+slice-aggregate-leave : tie.Need-slice-aggregate-leave Inv-loop2 μ-loop2 Inv-loop4 μ-loop4 Inv-loop5 μ-loop5 Inv-loop6 μ-loop6 Inv-loop3 μ-loop3 Inv-loop7 μ-loop7 Inv-loop8 μ-loop8 Inv-loop9 μ-loop9 Inv-loop10 μ-loop10 Inv-loop12 μ-loop12 Inv-loop11 μ-loop11 Inv-loop13 μ-loop13 Inv-loop μ-loop
+slice-aggregate-leave c = sym (c .before .loop .inv .long)
+
+leave-requires : tie.Need-leave-requires Inv-loop2 μ-loop2 Inv-loop4 μ-loop4 Inv-loop5 μ-loop5 Inv-loop6 μ-loop6 Inv-loop3 μ-loop3 Inv-loop7 μ-loop7 Inv-loop8 μ-loop8 Inv-loop9 μ-loop9 Inv-loop10 μ-loop10 Inv-loop12 μ-loop12 Inv-loop11 μ-loop11 Inv-loop13 μ-loop13 Inv-loop μ-loop
+leave-requires c κs =
+    let w = c .before .before .loop .inv in
+    let s = same-out _ _ _ _ _ _ _ w in
+    let f = w .fits in
+    (w .wide, (w .small, (w .few, (w .inside, omega arith))))
 
 same-length : tie.Need-same-length Inv-loop2 μ-loop2 Inv-loop4 μ-loop4 Inv-loop5 μ-loop5 Inv-loop6 μ-loop6 Inv-loop3 μ-loop3 Inv-loop7 μ-loop7 Inv-loop8 μ-loop8 Inv-loop9 μ-loop9 Inv-loop10 μ-loop10 Inv-loop12 μ-loop12 Inv-loop11 μ-loop11 Inv-loop13 μ-loop13 Inv-loop μ-loop
-same-length c =
-    let c₁ = c .before .before .before .before .before .before .before .before .before in
-    c .before .before .loop .inv .long ∙ sym (c₁ .pre)
+same-length c = same-rest _ _ _ _ _ _ _ (rested (c .before .before .before .before))
 
 same-length-2 : tie.Need-same-length-2 Inv-loop2 μ-loop2 Inv-loop4 μ-loop4 Inv-loop5 μ-loop5 Inv-loop6 μ-loop6 Inv-loop3 μ-loop3 Inv-loop7 μ-loop7 Inv-loop8 μ-loop8 Inv-loop9 μ-loop9 Inv-loop10 μ-loop10 Inv-loop12 μ-loop12 Inv-loop11 μ-loop11 Inv-loop13 μ-loop13 Inv-loop μ-loop
-same-length-2 c = same-long (c .before .before .loop .inv .put)
+same-length-2 c = same-rest _ _ _ _ _ _ _ (rested (c .before .before .before .before .before .before))
 
 returns : tie.Need-returns Inv-loop2 μ-loop2 Inv-loop4 μ-loop4 Inv-loop5 μ-loop5 Inv-loop6 μ-loop6 Inv-loop3 μ-loop3 Inv-loop7 μ-loop7 Inv-loop8 μ-loop8 Inv-loop9 μ-loop9 Inv-loop10 μ-loop10 Inv-loop12 μ-loop12 Inv-loop11 μ-loop11 Inv-loop13 μ-loop13 Inv-loop μ-loop
-returns c = ends-unread (c .before .before .loop .inv) (c .before .read .result) (c .before .read .ensures) (not-record (c .before .read .result) (c .match .keys2))
+returns c = ends-refused _ _ _ _ _ _ _ (rested (c .before .before .before .before)) (c .if1 .taken)
 
-sub-plan-of : tie.Need-sub-plan-of Inv-loop2 μ-loop2 Inv-loop4 μ-loop4 Inv-loop5 μ-loop5 Inv-loop6 μ-loop6 Inv-loop3 μ-loop3 Inv-loop7 μ-loop7 Inv-loop8 μ-loop8 Inv-loop9 μ-loop9 Inv-loop10 μ-loop10 Inv-loop12 μ-loop12 Inv-loop11 μ-loop11 Inv-loop13 μ-loop13 Inv-loop μ-loop
-sub-plan-of c =
-    let w = c .before .before .before .before .before .loop .inv .within in
-    let s = same-long (c .before .before .before .before .before .loop .inv .put) in
-    omega arith
-
-loop-less : tie.Need-loop-less Inv-loop2 μ-loop2 Inv-loop4 μ-loop4 Inv-loop5 μ-loop5 Inv-loop6 μ-loop6 Inv-loop3 μ-loop3 Inv-loop7 μ-loop7 Inv-loop8 μ-loop8 Inv-loop9 μ-loop9 Inv-loop10 μ-loop10 Inv-loop12 μ-loop12 Inv-loop11 μ-loop11 Inv-loop13 μ-loop13 Inv-loop μ-loop
-loop-less c = less (c .before .before)
-
-loop-again : tie.Need-loop-again Inv-loop2 μ-loop2 Inv-loop4 μ-loop4 Inv-loop5 μ-loop5 Inv-loop6 μ-loop6 Inv-loop3 μ-loop3 Inv-loop7 μ-loop7 Inv-loop8 μ-loop8 Inv-loop9 μ-loop9 Inv-loop10 μ-loop10 Inv-loop12 μ-loop12 Inv-loop11 μ-loop11 Inv-loop13 μ-loop13 Inv-loop μ-loop
-loop-again c =
-    let m = told (c .before .before) (c .enum-told .given .1) in
-    on-silent (c .before .before) (m .0) (m .1) (m .2) _ refl
+returns-2 : tie.Need-returns-2 Inv-loop2 μ-loop2 Inv-loop4 μ-loop4 Inv-loop5 μ-loop5 Inv-loop6 μ-loop6 Inv-loop3 μ-loop3 Inv-loop7 μ-loop7 Inv-loop8 μ-loop8 Inv-loop9 μ-loop9 Inv-loop10 μ-loop10 Inv-loop12 μ-loop12 Inv-loop11 μ-loop11 Inv-loop13 μ-loop13 Inv-loop μ-loop
+returns-2 c = ends-short _ _ _ _ _ _ _ (rested (c .before .before .before .before .before .before)) (c .before .before .if1 .left) (sym (c .before .is-short .ensures) ∙ c .if2 .taken)
 
 same-length-3 : tie.Need-same-length-3 Inv-loop2 μ-loop2 Inv-loop4 μ-loop4 Inv-loop5 μ-loop5 Inv-loop6 μ-loop6 Inv-loop3 μ-loop3 Inv-loop7 μ-loop7 Inv-loop8 μ-loop8 Inv-loop9 μ-loop9 Inv-loop10 μ-loop10 Inv-loop12 μ-loop12 Inv-loop11 μ-loop11 Inv-loop13 μ-loop13 Inv-loop μ-loop
 same-length-3 c =
-    let c₁ = c .before .before .before .before .before .before .before .before in
-    let c₂ = c₁ .before .before .before .before .before .before .before in
-    c₁ .loop .inv .long ∙ sym (c₂ .pre)
+    let c₁ = c .before .before .before .before .before .before .before .before .before .before .before .before in
+    let c₂ = c₁ .before .before .before .before .before .before .before .before .before .before in
+    let o = c₁ .leave .last .1 .1 .1 .1 .0 in
+    let x = ending (c₂ .args .form) (c .before .before .before .before .before .read .result) (countsOf (c₁ .before .before .before .loop .s)) (length o - c₁ .leave .result) .written in
+    ap length (c .before .before .unread .ensures .1 .1 .0) ∙ length-sets {A = ℕ} o (c₁ .leave .result) x ∙ same-rest _ _ _ _ _ _ _ (rested c₁)
+
+returns-3 : tie.Need-returns-3 Inv-loop2 μ-loop2 Inv-loop4 μ-loop4 Inv-loop5 μ-loop5 Inv-loop6 μ-loop6 Inv-loop3 μ-loop3 Inv-loop7 μ-loop7 Inv-loop8 μ-loop8 Inv-loop9 μ-loop9 Inv-loop10 μ-loop10 Inv-loop12 μ-loop12 Inv-loop11 μ-loop11 Inv-loop13 μ-loop13 Inv-loop μ-loop
+returns-3 c =
+    let c₁ = c .before .before .before .before .before .before .before in
+    ends-unread _ _ _ _ _ _ _ (rested (c₁ .before .before .before .before .before)) (c₁ .before .if1 .left) (sym (c₁ .is-short .ensures) ∙ c .before .before .before .before .before .before .if2 .left) (c .before .before .before .before .before .read .result) (c .before .before .before .before .before .read .ensures) (not-record (c
+    .before .before .before .before .before .read .result) (c .before .before .before .before .match .keys2)) (c .before .before .unread .ensures)
+
+sub-is-full : tie.Need-sub-is-full Inv-loop2 μ-loop2 Inv-loop4 μ-loop4 Inv-loop5 μ-loop5 Inv-loop6 μ-loop6 Inv-loop3 μ-loop3 Inv-loop7 μ-loop7 Inv-loop8 μ-loop8 Inv-loop9 μ-loop9 Inv-loop10 μ-loop10 Inv-loop12 μ-loop12 Inv-loop11 μ-loop11 Inv-loop13 μ-loop13 Inv-loop μ-loop
+sub-is-full c =
+    let c₁ = c .before .before .before .before .before .before .before .before .before .before in
+    let w = rested c₁ .within in let s = same-rest _ _ _ _ _ _ _ (rested c₁) in omega arith
 
 same-length-4 : tie.Need-same-length-4 Inv-loop2 μ-loop2 Inv-loop4 μ-loop4 Inv-loop5 μ-loop5 Inv-loop6 μ-loop6 Inv-loop3 μ-loop3 Inv-loop7 μ-loop7 Inv-loop8 μ-loop8 Inv-loop9 μ-loop9 Inv-loop10 μ-loop10 Inv-loop12 μ-loop12 Inv-loop11 μ-loop11 Inv-loop13 μ-loop13 Inv-loop μ-loop
 same-length-4 c =
-    let c₁ = c .before .before .before .before .before .before .before .before in
-    same-long (c₁ .loop .inv .put)
+    let c₁ = c .before .before .before .before .before .before .before .before .before .before .before .before in
+    same-rest _ _ _ _ _ _ _ (rested c₁)
 
-returns-2 : tie.Need-returns-2 Inv-loop2 μ-loop2 Inv-loop4 μ-loop4 Inv-loop5 μ-loop5 Inv-loop6 μ-loop6 Inv-loop3 μ-loop3 Inv-loop7 μ-loop7 Inv-loop8 μ-loop8 Inv-loop9 μ-loop9 Inv-loop10 μ-loop10 Inv-loop12 μ-loop12 Inv-loop11 μ-loop11 Inv-loop13 μ-loop13 Inv-loop μ-loop
-returns-2 c =
+returns-4 : tie.Need-returns-4 Inv-loop2 μ-loop2 Inv-loop4 μ-loop4 Inv-loop5 μ-loop5 Inv-loop6 μ-loop6 Inv-loop3 μ-loop3 Inv-loop7 μ-loop7 Inv-loop8 μ-loop8 Inv-loop9 μ-loop9 Inv-loop10 μ-loop10 Inv-loop12 μ-loop12 Inv-loop11 μ-loop11 Inv-loop13 μ-loop13 Inv-loop μ-loop
+returns-4 c =
+    let c₁ = c .before .before .before .before .before .before .before in
+    let v = c .before .before .before .r .given .0 in
+    ends-full-lines _ _ _ _ _ _ _ (rested (c₁ .before .before .before .before .before)) (c₁ .before .if1 .left) (sym (c₁ .is-short .ensures) ∙ c .before .before .before .before .before .before .if2 .left) (v .0) (v .1 .0) (v .1 .1 .0) (sym (c .before .before .before .before .before .read .ensures) ∙ c .before .before .before .r .given .1) _ _ refl refl
+    (roomy _ _ _ _ _ _ _ (rested (c₁ .before .before .before .before .before)) (sym (c .before .is-full .ensures) ∙ c .if3 .taken))
+
+sub-plan-of : tie.Need-sub-plan-of Inv-loop2 μ-loop2 Inv-loop4 μ-loop4 Inv-loop5 μ-loop5 Inv-loop6 μ-loop6 Inv-loop3 μ-loop3 Inv-loop7 μ-loop7 Inv-loop8 μ-loop8 Inv-loop9 μ-loop9 Inv-loop10 μ-loop10 Inv-loop12 μ-loop12 Inv-loop11 μ-loop11 Inv-loop13 μ-loop13 Inv-loop μ-loop
+sub-plan-of c =
+    let c₁ = c .before .before .before .before .before .before .before .before .before .before .before .before .before .before in
+    let w = rested c₁ .within in let s = same-rest _ _ _ _ _ _ _ (rested c₁) in omega arith
+
+loop-less : tie.Need-loop-less Inv-loop2 μ-loop2 Inv-loop4 μ-loop4 Inv-loop5 μ-loop5 Inv-loop6 μ-loop6 Inv-loop3 μ-loop3 Inv-loop7 μ-loop7 Inv-loop8 μ-loop8 Inv-loop9 μ-loop9 Inv-loop10 μ-loop10 Inv-loop12 μ-loop12 Inv-loop11 μ-loop11 Inv-loop13 μ-loop13 Inv-loop μ-loop
+loop-less c = less (c .before .before .before)
+
+loop-again : tie.Need-loop-again Inv-loop2 μ-loop2 Inv-loop4 μ-loop4 Inv-loop5 μ-loop5 Inv-loop6 μ-loop6 Inv-loop3 μ-loop3 Inv-loop7 μ-loop7 Inv-loop8 μ-loop8 Inv-loop9 μ-loop9 Inv-loop10 μ-loop10 Inv-loop12 μ-loop12 Inv-loop11 μ-loop11 Inv-loop13 μ-loop13 Inv-loop μ-loop
+loop-again c =
+    let m = told (c .before .before .before) (c .before .plan .given .1) in
+    on-silent (c .before .before .before) (m .0) (m .1) _ (ap (withRefusal (c .before .plan .given .0 .0)) (c .before .before .before .before .before .silent .ensures)) _ refl
+
+same-length-5 : tie.Need-same-length-5 Inv-loop2 μ-loop2 Inv-loop4 μ-loop4 Inv-loop5 μ-loop5 Inv-loop6 μ-loop6 Inv-loop3 μ-loop3 Inv-loop7 μ-loop7 Inv-loop8 μ-loop8 Inv-loop9 μ-loop9 Inv-loop10 μ-loop10 Inv-loop12 μ-loop12 Inv-loop11 μ-loop11 Inv-loop13 μ-loop13 Inv-loop μ-loop
+same-length-5 c =
+    let c₁ = c .before .before .before .before .before .before .before .before .before .before .before .before .before .before .before .before .before in
+    same-rest _ _ _ _ _ _ _ (rested c₁)
+
+returns-5 : tie.Need-returns-5 Inv-loop2 μ-loop2 Inv-loop4 μ-loop4 Inv-loop5 μ-loop5 Inv-loop6 μ-loop6 Inv-loop3 μ-loop3 Inv-loop7 μ-loop7 Inv-loop8 μ-loop8 Inv-loop9 μ-loop9 Inv-loop10 μ-loop10 Inv-loop12 μ-loop12 Inv-loop11 μ-loop11 Inv-loop13 μ-loop13 Inv-loop μ-loop
+returns-5 c =
     let c₁ = c .before .before .before .before .before .before .before .before in
-    let v = c .before .before .before .before .before .r .given .0 in
-    let m = told (c .before .before) (c .enum-told2 .given .1) in
-    ends-full (c₁ .loop .inv) (v .0) (v .1 .0) (v .1 .1 .0) (reads (c .before .before)) _ _ refl refl (m .0) (m .1)
+    let c₂ = c₁ .before .before .before .before .before .before .before .before .before in
+    let v = c₁ .r .given .0 in
+    let m = told (c .before .before) (c .enum-told .given .1) in
+    ends-full-bytes _ _ _ _ _ _ _ (rested c₂) (c₁ .before .before .before .before .before .if1 .left) (sym (c₁ .before .before .before .before .is-short .ensures) ∙ c₁ .before .before .before .if2 .left) (v .0) (v .1 .0) (v .1 .1 .0) (reads (c .before .before)) _ _ refl refl (roomy-in (c .before .before)) (m .1) (m .0)
 
 mul-event : tie.Need-mul-event Inv-loop2 μ-loop2 Inv-loop4 μ-loop4 Inv-loop5 μ-loop5 Inv-loop6 μ-loop6 Inv-loop3 μ-loop3 Inv-loop7 μ-loop7 Inv-loop8 μ-loop8 Inv-loop9 μ-loop9 Inv-loop10 μ-loop10 Inv-loop12 μ-loop12 Inv-loop11 μ-loop11 Inv-loop13 μ-loop13 Inv-loop μ-loop
 mul-event c =
-    let h = told (c .before .before .before .before) (c .before .before .plan .given .1) .2 in
+    let h = told (c .before .before .before .before) (c .before .before .plan2 .given .1) .2 in
     search needs
 
 element-set-from-event : tie.Need-element-set-from-event Inv-loop2 μ-loop2 Inv-loop4 μ-loop4 Inv-loop5 μ-loop5 Inv-loop6 μ-loop6 Inv-loop3 μ-loop3 Inv-loop7 μ-loop7 Inv-loop8 μ-loop8 Inv-loop9 μ-loop9 Inv-loop10 μ-loop10 Inv-loop12 μ-loop12 Inv-loop11 μ-loop11 Inv-loop13 μ-loop13 Inv-loop μ-loop
 element-set-from-event c =
-    let h = told (c .before .before .before .before) (c .before .before .plan .given .1) .2 in
+    let h = told (c .before .before .before .before) (c .before .before .plan2 .given .1) .2 in
     search needs
 
 mul-id : tie.Need-mul-id Inv-loop2 μ-loop2 Inv-loop4 μ-loop4 Inv-loop5 μ-loop5 Inv-loop6 μ-loop6 Inv-loop3 μ-loop3 Inv-loop7 μ-loop7 Inv-loop8 μ-loop8 Inv-loop9 μ-loop9 Inv-loop10 μ-loop10 Inv-loop12 μ-loop12 Inv-loop11 μ-loop11 Inv-loop13 μ-loop13 Inv-loop μ-loop
 mul-id c =
-    let h = told (c .before .before .before .before) (c .before .before .plan .given .1) .2 in
+    let h = told (c .before .before .before .before) (c .before .before .plan2 .given .1) .2 in
     search needs
 
 element-set-from-id : tie.Need-element-set-from-id Inv-loop2 μ-loop2 Inv-loop4 μ-loop4 Inv-loop5 μ-loop5 Inv-loop6 μ-loop6 Inv-loop3 μ-loop3 Inv-loop7 μ-loop7 Inv-loop8 μ-loop8 Inv-loop9 μ-loop9 Inv-loop10 μ-loop10 Inv-loop12 μ-loop12 Inv-loop11 μ-loop11 Inv-loop13 μ-loop13 Inv-loop μ-loop
 element-set-from-id c =
-    let h = told (c .before .before .before .before) (c .before .before .plan .given .1) .2 in
+    let h = told (c .before .before .before .before) (c .before .before .plan2 .given .1) .2 in
     search needs
 
 add-s : tie.Need-add-s Inv-loop2 μ-loop2 Inv-loop4 μ-loop4 Inv-loop5 μ-loop5 Inv-loop6 μ-loop6 Inv-loop3 μ-loop3 Inv-loop7 μ-loop7 Inv-loop8 μ-loop8 Inv-loop9 μ-loop9 Inv-loop10 μ-loop10 Inv-loop12 μ-loop12 Inv-loop11 μ-loop11 Inv-loop13 μ-loop13 Inv-loop μ-loop
 add-s c =
-    let h = told (c .before .before .before .before) (c .before .before .plan .given .1) .2 in
+    let h = told (c .before .before .before .before) (c .before .before .plan2 .given .1) .2 in
     search needs
 
 loop-less-2 : tie.Need-loop-less-2 Inv-loop2 μ-loop2 Inv-loop4 μ-loop4 Inv-loop5 μ-loop5 Inv-loop6 μ-loop6 Inv-loop3 μ-loop3 Inv-loop7 μ-loop7 Inv-loop8 μ-loop8 Inv-loop9 μ-loop9 Inv-loop10 μ-loop10 Inv-loop12 μ-loop12 Inv-loop11 μ-loop11 Inv-loop13 μ-loop13 Inv-loop μ-loop
@@ -377,33 +456,35 @@ loop-less-2 c = less (c .before .before .before .before .before)
 
 loop-again-2 : tie.Need-loop-again-2 Inv-loop2 μ-loop2 Inv-loop4 μ-loop4 Inv-loop5 μ-loop5 Inv-loop6 μ-loop6 Inv-loop3 μ-loop3 Inv-loop7 μ-loop7 Inv-loop8 μ-loop8 Inv-loop9 μ-loop9 Inv-loop10 μ-loop10 Inv-loop12 μ-loop12 Inv-loop11 μ-loop11 Inv-loop13 μ-loop13 Inv-loop μ-loop
 loop-again-2 c =
-    let c₁ = c .before .before .before .before .before .before .before .before .before .before .before in
-    let m = told (c .before .before .before .before .before) (c .before .before .before .plan .given .1) in
-    on-silent (c .before .before .before .before .before) (m .0) (m .1) (λ z. omega arith) _ (entered-active (withEdits (c₁ .loop .s) (c₁ .loop .edits)) (c .before .before .before .plan .given .0 .0) (m .2) (c .wrapping-add-u64 .ensures))
+    let c₁ = c .before .before .before .before .before .before .before in
+    let c₂ = c₁ .before .before .before .before .before .before .before .before .before .before .before .before .before .before .before .before in
+    let m = told (c .before .before .before .before .before) (c .before .before .before .plan2 .given .1) in
+    on-silent (c .before .before .before .before .before) (m .0) (m .1) _ (c₁ .silent .ensures) _ (entered-active (withEdits (c₂ .loop .s) (c₂ .loop .edits)) (c .before .before .before .plan2 .given .0 .0) (m .2) (c .wrapping-add-u64 .ensures))
 
 loop2-holds : tie.Need-loop2-holds Inv-loop2 μ-loop2 Inv-loop4 μ-loop4 Inv-loop5 μ-loop5 Inv-loop6 μ-loop6 Inv-loop3 μ-loop3 Inv-loop7 μ-loop7 Inv-loop8 μ-loop8 Inv-loop9 μ-loop9 Inv-loop10 μ-loop10 Inv-loop12 μ-loop12 Inv-loop11 μ-loop11 Inv-loop13 μ-loop13 Inv-loop μ-loop
-loop2-holds c = (told (c .before .before .before) (c .before .plan2 .given .1) .2, rising-in)
+loop2-holds c = (told (c .before .before .before) (c .before .plan3 .given .1) .2, rising-in)
 
 loop2-again : tie.Need-loop2-again Inv-loop2 μ-loop2 Inv-loop4 μ-loop4 Inv-loop5 μ-loop5 Inv-loop6 μ-loop6 Inv-loop3 μ-loop3 Inv-loop7 μ-loop7 Inv-loop8 μ-loop8 Inv-loop9 μ-loop9 Inv-loop10 μ-loop10 Inv-loop12 μ-loop12 Inv-loop11 μ-loop11 Inv-loop13 μ-loop13 Inv-loop μ-loop
-loop2-again c = (c .before .before .before .before .loop2 .inv .0, rising-in-on (c .before .before .before .loop2-test .taken) (sym (c .before .precedes .ensures) ∙ not-false _ (c .if1 .left)) (c .before .before .before .before .loop2 .inv .1))
+loop2-again c = (c .before .before .before .before .loop2 .inv .0, rising-in-on (c .before .before .before .loop2-test .taken) (sym (c .before .precedes .ensures) ∙ not-false _ (c .if4 .left)) (c .before .before .before .before .loop2 .inv .1))
 
 loop-less-3 : tie.Need-loop-less-3 Inv-loop2 μ-loop2 Inv-loop4 μ-loop4 Inv-loop5 μ-loop5 Inv-loop6 μ-loop6 Inv-loop3 μ-loop3 Inv-loop7 μ-loop7 Inv-loop8 μ-loop8 Inv-loop9 μ-loop9 Inv-loop10 μ-loop10 Inv-loop12 μ-loop12 Inv-loop11 μ-loop11 Inv-loop13 μ-loop13 Inv-loop μ-loop
 loop-less-3 c = less (c .before .before .before .before .before .before)
 
 loop-again-3 : tie.Need-loop-again-3 Inv-loop2 μ-loop2 Inv-loop4 μ-loop4 Inv-loop5 μ-loop5 Inv-loop6 μ-loop6 Inv-loop3 μ-loop3 Inv-loop7 μ-loop7 Inv-loop8 μ-loop8 Inv-loop9 μ-loop9 Inv-loop10 μ-loop10 Inv-loop12 μ-loop12 Inv-loop11 μ-loop11 Inv-loop13 μ-loop13 Inv-loop μ-loop
 loop-again-3 c =
-    let c₁ = c .before .before .before .before .before .before .before .before .before .before .before .before in
-    let m = told (c .before .before .before .before .before .before) (c .before .before .before .before .plan2 .given .1) in
+    let c₁ = c .before .before .before .before .before .before .before .before in
+    let c₂ = c₁ .before .before .before .before .before .before .before .before .before .before .before .before .before .before .before .before in
+    let m = told (c .before .before .before .before .before .before) (c .before .before .before .before .plan3 .given .1) in
     let i = c .before .before .loop2 .inv in
     let g = ⊎-elim (λ w. risen-in-root (i .0) (w .left) (i .1)) (λ w. risen-in-stop (i .0) (sym (w .2 .ensures) ∙ not-true _ (w .3 .taken)) (i .1)) (c .before .loop2-test .came) in
-    let y : Sequencer → Sequencer = λ x. withEdits x (c₁ .loop .edits) in
-    on-silent (c .before .before .before .before .before .before) (m .0) (m .1) (λ z. omega arith) _ (entered-ready (y (c₁ .loop .s)) (y (c .before .before .loop2 .s)) _ (c .before .before .before .before .plan2 .given .0 .0) (ap y (i .1 .same)) (ap y g ∙ pushed-beside (c₁ .loop .s) (c₁ .loop .edits) (c .before .before .before .before .plan2 .given .0 .0))
-    (c .wrapping-add-u642 .ensures))
+    let y : Sequencer → Sequencer = λ x. withEdits x (c₂ .loop .edits) in
+    on-silent (c .before .before .before .before .before .before) (m .0) (m .1) _ (c₁ .silent .ensures) _ (entered-ready (y (c₂ .loop .s)) (y (c .before .before .loop2 .s)) _ (c .before .before .before .before .plan3 .given .0 .0) (ap y (i .1 .same)) (ap y g ∙ pushed-beside (c₂ .loop .s) (c₂ .loop .edits) (c .before .before .before .before .plan3 .given .0
+    .0)) (c .wrapping-add-u642 .ensures))
 
 loop3-holds : tie.Need-loop3-holds Inv-loop2 μ-loop2 Inv-loop4 μ-loop4 Inv-loop5 μ-loop5 Inv-loop6 μ-loop6 Inv-loop3 μ-loop3 Inv-loop7 μ-loop7 Inv-loop8 μ-loop8 Inv-loop9 μ-loop9 Inv-loop10 μ-loop10 Inv-loop12 μ-loop12 Inv-loop11 μ-loop11 Inv-loop13 μ-loop13 Inv-loop μ-loop
 unfolding readyToActive
 loop3-holds c =
-    let c₁ = c .before .before .before .before .before .before .before .before .before .before .before in
+    let c₁ = c .before .before .before .before .before .before .before .before .before .before .before .before .before .before .before .before .before .before .before .before .before .before .before in
     record { fuel = c₁ .loop .s .«ready_len»; enough = omega arith; gives = refl }
 
 sub-m-2 : tie.Need-sub-m-2 Inv-loop2 μ-loop2 Inv-loop4 μ-loop4 Inv-loop5 μ-loop5 Inv-loop6 μ-loop6 Inv-loop3 μ-loop3 Inv-loop7 μ-loop7 Inv-loop8 μ-loop8 Inv-loop9 μ-loop9 Inv-loop10 μ-loop10 Inv-loop12 μ-loop12 Inv-loop11 μ-loop11 Inv-loop13 μ-loop13 Inv-loop μ-loop
@@ -432,7 +513,7 @@ loop6-again c =
     let c₁ = c .before .before .before .before .before .before .before in
     let l = c₁ .loop6 in
     let h = between (c .before .before .before) in
-    (l .inv .0, sinking-in-on (c .before .before .before .before .before .before .loop6-test .taken) (child-is (l .s .ready) _ _ _ (c .before .before .before .lesser-child .ensures)) (omega arith) refl (sym (c .before .precedes2 .ensures) ∙ not-false _ (c .if5 .left)) (l .inv .1))
+    (l .inv .0, sinking-in-on (c .before .before .before .before .before .before .loop6-test .taken) (child-is (l .s .ready) _ _ _ (c .before .before .before .lesser-child .ensures)) (omega arith) refl (sym (c .before .precedes2 .ensures) ∙ not-false _ (c .if8 .left)) (l .inv .1))
 
 loop3-less : tie.Need-loop3-less Inv-loop2 μ-loop2 Inv-loop4 μ-loop4 Inv-loop5 μ-loop5 Inv-loop6 μ-loop6 Inv-loop3 μ-loop3 Inv-loop7 μ-loop7 Inv-loop8 μ-loop8 Inv-loop9 μ-loop9 Inv-loop10 μ-loop10 Inv-loop12 μ-loop12 Inv-loop11 μ-loop11 Inv-loop13 μ-loop13 Inv-loop μ-loop
 loop3-less c =
@@ -443,7 +524,7 @@ loop3-again : tie.Need-loop3-again Inv-loop2 μ-loop2 Inv-loop4 μ-loop4 Inv-loo
 loop3-again c =
     let c₁ = c .before .before .before .before .before .before .before .before .before in
     let h = started c₁ in
-    activating-room _ _ (h .0) (h .1) (h .2) (taking (c .before .before .before .before)) (popped-in (c .before)) (c₁ .before .before .before .loop3 .inv) refl (c .if6 .taken)
+    activating-room _ _ (h .0) (h .1) (h .2) (taking (c .before .before .before .before)) (popped-in (c .before)) (c₁ .before .before .before .loop3 .inv) refl (c .if9 .taken)
 
 loop3-less-2 : tie.Need-loop3-less-2 Inv-loop2 μ-loop2 Inv-loop4 μ-loop4 Inv-loop5 μ-loop5 Inv-loop6 μ-loop6 Inv-loop3 μ-loop3 Inv-loop7 μ-loop7 Inv-loop8 μ-loop8 Inv-loop9 μ-loop9 Inv-loop10 μ-loop10 Inv-loop12 μ-loop12 Inv-loop11 μ-loop11 Inv-loop13 μ-loop13 Inv-loop μ-loop
 loop3-less-2 c =
@@ -454,7 +535,7 @@ loop3-again-2 : tie.Need-loop3-again-2 Inv-loop2 μ-loop2 Inv-loop4 μ-loop4 Inv
 loop3-again-2 c =
     let c₁ = c .before .before .before .before .before .before .before .before .before in
     let h = started c₁ in
-    activating-full _ _ (h .0) (h .1) (h .2) (taking (c .before .before .before .before)) (popped-in (c .before)) (c₁ .before .before .before .loop3 .inv) (c .if6 .left)
+    activating-full _ _ (h .0) (h .1) (h .2) (taking (c .before .before .before .before)) (popped-in (c .before)) (c₁ .before .before .before .loop3 .inv) (c .if9 .left)
 
 loop7-holds : tie.Need-loop7-holds Inv-loop2 μ-loop2 Inv-loop4 μ-loop4 Inv-loop5 μ-loop5 Inv-loop6 μ-loop6 Inv-loop3 μ-loop3 Inv-loop7 μ-loop7 Inv-loop8 μ-loop8 Inv-loop9 μ-loop9 Inv-loop10 μ-loop10 Inv-loop12 μ-loop12 Inv-loop11 μ-loop11 Inv-loop13 μ-loop13 Inv-loop μ-loop
 unfolding activeToPast
@@ -512,7 +593,7 @@ loop7-again : tie.Need-loop7-again Inv-loop2 μ-loop2 Inv-loop4 μ-loop4 Inv-loo
 loop7-again c =
     let c₁ = c .before .before .before .before .before .before .before .before in
     let h = inside c₁ in
-    finishing-room _ _ _ _ (h .0) (h .1) (c .before .before .before .before .if8 .taken) (c .if9 .taken) (c₁ .before .before .loop7 .inv)
+    finishing-room _ _ _ _ (h .0) (h .1) (c .before .before .before .before .if11 .taken) (c .if12 .taken) (c₁ .before .before .loop7 .inv)
 
 loop7-less-2 : tie.Need-loop7-less-2 Inv-loop2 μ-loop2 Inv-loop4 μ-loop4 Inv-loop5 μ-loop5 Inv-loop6 μ-loop6 Inv-loop3 μ-loop3 Inv-loop7 μ-loop7 Inv-loop8 μ-loop8 Inv-loop9 μ-loop9 Inv-loop10 μ-loop10 Inv-loop12 μ-loop12 Inv-loop11 μ-loop11 Inv-loop13 μ-loop13 Inv-loop μ-loop
 loop7-less-2 c =
@@ -523,7 +604,7 @@ loop7-again-2 : tie.Need-loop7-again-2 Inv-loop2 μ-loop2 Inv-loop4 μ-loop4 Inv
 loop7-again-2 c =
     let c₁ = c .before .before .before .before .before .before .before .before in
     let h = inside c₁ in
-    finishing-full _ _ _ _ (h .0) (h .1) (c .before .before .before .before .if8 .taken) (c .if9 .left) (c₁ .before .before .loop7 .inv)
+    finishing-full _ _ _ _ (h .0) (h .1) (c .before .before .before .before .if11 .taken) (c .if12 .left) (c₁ .before .before .loop7 .inv)
 
 add-i : tie.Need-add-i Inv-loop2 μ-loop2 Inv-loop4 μ-loop4 Inv-loop5 μ-loop5 Inv-loop6 μ-loop6 Inv-loop3 μ-loop3 Inv-loop7 μ-loop7 Inv-loop8 μ-loop8 Inv-loop9 μ-loop9 Inv-loop10 μ-loop10 Inv-loop12 μ-loop12 Inv-loop11 μ-loop11 Inv-loop13 μ-loop13 Inv-loop μ-loop
 add-i c = let h = inside (c .before .before .before .before) in search needs
@@ -534,7 +615,7 @@ loop7-less-3 c = let h = inside (c .before .before .before .before) in omega ari
 loop7-again-3 : tie.Need-loop7-again-3 Inv-loop2 μ-loop2 Inv-loop4 μ-loop4 Inv-loop5 μ-loop5 Inv-loop6 μ-loop6 Inv-loop3 μ-loop3 Inv-loop7 μ-loop7 Inv-loop8 μ-loop8 Inv-loop9 μ-loop9 Inv-loop10 μ-loop10 Inv-loop12 μ-loop12 Inv-loop11 μ-loop11 Inv-loop13 μ-loop13 Inv-loop μ-loop
 loop7-again-3 c =
     let h = inside (c .before .before .before .before) in
-    finishing-on _ _ _ _ (h .0) (h .1) (c .if8 .left) (c .before .before .before .before .before .before .loop7 .inv)
+    finishing-on _ _ _ _ (h .0) (h .1) (c .if11 .left) (c .before .before .before .before .before .before .loop7 .inv)
 
 loop8-holds : tie.Need-loop8-holds Inv-loop2 μ-loop2 Inv-loop4 μ-loop4 Inv-loop5 μ-loop5 Inv-loop6 μ-loop6 Inv-loop3 μ-loop3 Inv-loop7 μ-loop7 Inv-loop8 μ-loop8 Inv-loop9 μ-loop9 Inv-loop10 μ-loop10 Inv-loop12 μ-loop12 Inv-loop11 μ-loop11 Inv-loop13 μ-loop13 Inv-loop μ-loop
 unfolding ofBits
@@ -558,7 +639,7 @@ way-write-given-s : tie.Need-way-write-given-s Inv-loop2 μ-loop2 Inv-loop4 μ-l
 way-write-given-s c =
     let q = c .before .before .before .before .before .loop8 .inv .0 .count in
     let t = c .before .before .before .before .loop8-test .taken in
-    search needs
+    omega (arith, q, t)
 
 mul-s-2 : tie.Need-mul-s-2 Inv-loop2 μ-loop2 Inv-loop4 μ-loop4 Inv-loop5 μ-loop5 Inv-loop6 μ-loop6 Inv-loop3 μ-loop3 Inv-loop7 μ-loop7 Inv-loop8 μ-loop8 Inv-loop9 μ-loop9 Inv-loop10 μ-loop10 Inv-loop12 μ-loop12 Inv-loop11 μ-loop11 Inv-loop13 μ-loop13 Inv-loop μ-loop
 mul-s-2 c = omega (arith, c .before .before .before .before .before .before .loop8 .inv .0 .count, c .before .before .before .before .before .loop8-test .taken)
@@ -567,13 +648,13 @@ way-write-given-s-2 : tie.Need-way-write-given-s-2 Inv-loop2 μ-loop2 Inv-loop4 
 way-write-given-s-2 c =
     let q = c .before .before .before .before .before .before .loop8 .inv .0 .count in
     let t = c .before .before .before .before .before .loop8-test .taken in
-    search needs
+    omega (arith, q, t)
 
 loop8-again : tie.Need-loop8-again Inv-loop2 μ-loop2 Inv-loop4 μ-loop4 Inv-loop5 μ-loop5 Inv-loop6 μ-loop6 Inv-loop3 μ-loop3 Inv-loop7 μ-loop7 Inv-loop8 μ-loop8 Inv-loop9 μ-loop9 Inv-loop10 μ-loop10 Inv-loop12 μ-loop12 Inv-loop11 μ-loop11 Inv-loop13 μ-loop13 Inv-loop μ-loop
 loop8-again c =
     let c₁ = c .before .before .before .before .before .before .before in
     let c₂ = c₁ .before .before .before .before .before .before .before .before .before .before .before .before .before in
-    let c₃ = c₂ .before .before .before .before .before .before .before .before .before .before .before .before .before .before .before in
+    let c₃ = c₂ .before .before .before .before .before .before .before .before .before .before .before .before .before .before .before .before .before .before .before .before .before .before .before .before .before .before .before in
     let l = c₁ .loop8 in
     let k = c₁ .before .cleared-places .result in
     let r = c .before .before .before .sound in
@@ -581,74 +662,41 @@ loop8-again c =
     let kept = r .kept .1 .1 .1 .0 in
     let h : k ≤ length (l .mix) = omega (arith, c₁ .before .cleared-places .ensures, l .inv .1) in
     let q : take k (ys ++ drop (k - 0) (l .mix)) ≡ ys = take-at ys (drop (k - 0) (l .mix)) k (kept ∙ rw sub-zero (length-take-le k (l .mix) h)) in
-    let v : ys ≡ soundedRow (c₃ .args .pool .now) (c₂ .plan3 .given .0 .0) (take k (l .mix)) (getD (l .s .active) (l .k) blank) = r .ensures .1 ∙ rw sub-zero in
-    (passing-moved (c₂ .plan3 .given .0 .0) (r .ensures .0) (q ∙ v) (c .before .before .before .before .before .before .loop8-test .taken) (l .inv .0), same-len-mid 0 (k - 0) (l .mix) ys kept ∙ l .inv .1)
+    let v : ys ≡ soundedRow (c₃ .args .pool .now) (c₂ .plan4 .given .0 .0) (take k (l .mix)) (getD (l .s .active) (l .k) blank) = r .ensures .1 ∙ rw sub-zero in
+    (passing-moved (c₂ .plan4 .given .0 .0) (r .ensures .0) (q ∙ v) (c .before .before .before .before .before .before .loop8-test .taken) (l .inv .0), same-len-mid 0 (k - 0) (l .mix) ys kept ∙ l .inv .1)
 
 part-write-end : tie.Need-part-write-end Inv-loop2 μ-loop2 Inv-loop4 μ-loop4 Inv-loop5 μ-loop5 Inv-loop6 μ-loop6 Inv-loop3 μ-loop3 Inv-loop7 μ-loop7 Inv-loop8 μ-loop8 Inv-loop9 μ-loop9 Inv-loop10 μ-loop10 Inv-loop12 μ-loop12 Inv-loop11 μ-loop11 Inv-loop13 μ-loop13 Inv-loop μ-loop
 part-write-end c = omega (arith, c .before .before .before .cleared-places .ensures, c .before .before .loop8 .inv .1)
 
-put-channels-requires : tie.Need-put-channels-requires Inv-loop2 μ-loop2 Inv-loop4 μ-loop4 Inv-loop5 μ-loop5 Inv-loop6 μ-loop6 Inv-loop3 μ-loop3 Inv-loop7 μ-loop7 Inv-loop8 μ-loop8 Inv-loop9 μ-loop9 Inv-loop10 μ-loop10 Inv-loop12 μ-loop12 Inv-loop11 μ-loop11 Inv-loop13 μ-loop13 Inv-loop μ-loop
-put-channels-requires c κs =
-    let c₁ = c .before .before .before .before .before .before .before .before .before .before .before .before .before .before .before .before .before .before .before .before .before .before in
-    let c₂ = c₁ .before .before .before .before .before .before .before .before in
-    let g = renders-in c₁ in
-    let o : length (c .before .before .before .before .write .last .1 .1 .0) ≡ 512 = ap length (written (c .before .before .before .before)) ∙ g .long in
-    let i = g .inside in
-    let f = g .fits in
-    let w = c₂ .loop .inv .within in
-    let s = same-long (c₂ .loop .inv .put) in
-    (g .wide, (omega arith, omega arith))
-
-mul-at : tie.Need-mul-at Inv-loop2 μ-loop2 Inv-loop4 μ-loop4 Inv-loop5 μ-loop5 Inv-loop6 μ-loop6 Inv-loop3 μ-loop3 Inv-loop7 μ-loop7 Inv-loop8 μ-loop8 Inv-loop9 μ-loop9 Inv-loop10 μ-loop10 Inv-loop12 μ-loop12 Inv-loop11 μ-loop11 Inv-loop13 μ-loop13 Inv-loop μ-loop
-mul-at c =
-    let c₁ = c .before .before .before .before .before .before .before .before .before .before .before .before .before .before .before .before .before .before .before .before .before .before .before .before .before .before in
-    let g = renders-in c₁ in
-    let z = mul-le-mul (g .few) (g .small) in
-    record { fits = omega arith }
-
-mul-at-2 : tie.Need-mul-at-2 Inv-loop2 μ-loop2 Inv-loop4 μ-loop4 Inv-loop5 μ-loop5 Inv-loop6 μ-loop6 Inv-loop3 μ-loop3 Inv-loop7 μ-loop7 Inv-loop8 μ-loop8 Inv-loop9 μ-loop9 Inv-loop10 μ-loop10 Inv-loop12 μ-loop12 Inv-loop11 μ-loop11 Inv-loop13 μ-loop13 Inv-loop μ-loop
-mul-at-2 c =
-    let c₁ = c .before .before .before .before .before .before .before .before .before .before .before .before .before .before .before .before .before .before .before .before .before .before .before .before .before .before in
-    let g = renders-in c₁ in
-    let z = mul-le-mul (g .few) (g .small) in
-    record { fits = omega arith }
-
-add-at : tie.Need-add-at Inv-loop2 μ-loop2 Inv-loop4 μ-loop4 Inv-loop5 μ-loop5 Inv-loop6 μ-loop6 Inv-loop3 μ-loop3 Inv-loop7 μ-loop7 Inv-loop8 μ-loop8 Inv-loop9 μ-loop9 Inv-loop10 μ-loop10 Inv-loop12 μ-loop12 Inv-loop11 μ-loop11 Inv-loop13 μ-loop13 Inv-loop μ-loop
-add-at c =
-    let c₁ = c .before .before .before .before .before .before .before .before .before .before .before .before .before .before .before .before .before .before .before .before .before .before .before .before .before .before in
-    let c₂ = c₁ .before .before .before .before .before .before .before .before in
-    let c₃ = c₂ .before .before .before .before .before .before .before in
-    let g = renders-in c₁ in
-    let f = g .fits in
-    let w = c₂ .loop .inv .within in
-    let s = same-long (c₂ .loop .inv .put) in
-    let z = c₃ .good in
-    omega arith
+slice-aggregate-write : tie.Need-slice-aggregate-write Inv-loop2 μ-loop2 Inv-loop4 μ-loop4 Inv-loop5 μ-loop5 Inv-loop6 μ-loop6 Inv-loop3 μ-loop3 Inv-loop7 μ-loop7 Inv-loop8 μ-loop8 Inv-loop9 μ-loop9 Inv-loop10 μ-loop10 Inv-loop12 μ-loop12 Inv-loop11 μ-loop11 Inv-loop13 μ-loop13 Inv-loop μ-loop
+slice-aggregate-write c =
+    let c₁ = c .before .before .before .before .before .before .before .before .before .before .before .before .before .before .before .before .before .before .before .before .before .before .before .before .before .before .before .before .before .before .before .before .before .before .before .before .before in
+    sym (c₁ .loop .inv .long)
 
 loop-less-4 : tie.Need-loop-less-4 Inv-loop2 μ-loop2 Inv-loop4 μ-loop4 Inv-loop5 μ-loop5 Inv-loop6 μ-loop6 Inv-loop3 μ-loop3 Inv-loop7 μ-loop7 Inv-loop8 μ-loop8 Inv-loop9 μ-loop9 Inv-loop10 μ-loop10 Inv-loop12 μ-loop12 Inv-loop11 μ-loop11 Inv-loop13 μ-loop13 Inv-loop μ-loop
 loop-less-4 c =
-    let c₁ = c .before .before .before .before .before .before .before .before .before .before .before .before .before .before .before .before .before .before .before .before .before .before .before .before .before .before .before .before in
+    let c₁ = c .before .before .before .before .before .before .before .before .before .before .before .before .before .before .before .before .before .before .before .before .before in
     less c₁
 
 loop-again-4 : tie.Need-loop-again-4 Inv-loop2 μ-loop2 Inv-loop4 μ-loop4 Inv-loop5 μ-loop5 Inv-loop6 μ-loop6 Inv-loop3 μ-loop3 Inv-loop7 μ-loop7 Inv-loop8 μ-loop8 Inv-loop9 μ-loop9 Inv-loop10 μ-loop10 Inv-loop12 μ-loop12 Inv-loop11 μ-loop11 Inv-loop13 μ-loop13 Inv-loop μ-loop
 loop-again-4 c =
-    let c₁ = c .before .before .before .before .before .before .before .before in
-    let c₂ = c₁ .before .before .before .before .before .before .before .before .before .before .before .before .before .before .before .before .before .before in
-    let c₃ = c₂ .before .before .before .before .before .before .before .before in
-    let c₄ = c₃ .before .before .before .before .before .before .before in
-    let v = c₂ .before .before .before .before .before .r .given .0 in
-    let l = c₃ .loop in
-    let b = c₂ .plan3 .given .0 .0 in
-    let g = renders-in c₂ in
-    let o = c₁ .write .last .1 .1 .0 in
-    let x = written c₁ in
+    let c₁ = c .before .before .before .before .before .before .before .before .before .before .before .before .before .before .before .before .before .before .before in
+    let c₂ = c₁ .before .before .before .before .before .before .before .before in
+    let c₃ = c₂ .before .before .before .before .before .before .before .before .before in
+    let c₄ = c₃ .before .before .before .before .before .before .before .before .before .before in
+    let v = c₂ .r .given .0 in
+    let l = c₃ .before .before .before .loop in
+    let b = c₁ .plan4 .given .0 .0 in
+    let g = renders-in c₁ in
+    let o = c .before .write .last .1 .1 .0 in
+    let x = written (c .before) in
     let long : length o ≡ 512 = ap length x ∙ g .long in
     let i = g .inside in
     let n = sound-length (b .channels) (b .size) (b .stride) o (g .wide) (omega arith) in
     let f = g .fits in
-    goes-on (l .inv) (v .0) (v .1 .0) (v .1 .1 .0) (reads (c₂ .before .before)) (heardIn
-    (c₄ .args .pool .now) b (withEdits (l .s) (l .edits))) o (sym (g .gives)) x long (λ z. omega arith) (omega arith) _
-    (c .before .before .before .put-channels .ensures) _ (ap (λ (k : ℕ). l .at + k) n) _ (summed (c₁ .before .before .before .before) .0)
+    goes-on _ _ _ _ _ _ _ (rested c₃) (c₂ .before .before .before .before .before .if1 .left) (sym (c₂ .before .before .before .before .is-short .ensures) ∙ c₂ .before .before .before .if2 .left) (v .0) (v .1 .0) (v .1 .1 .0) (reads (c₁ .before .before)) (heardIn (c₄ .args .pool .now) b (withEdits (l .s) (l .edits))) o (sym (g .gives)) x long (g .wide) (g
+    .small) (g .few) (g .inside) (roomy-in (c₁ .before .before)) (omega arith)
+    _ (ap (withSamples b) (c₁ .before .before .before .before .silent .ensures)) _ (summed (c .before .before .before .before .before) .0)
 
 -- ---- edits
 
@@ -658,14 +706,14 @@ loop4-holds c = (counted-few (c .before .before .before .before .before .loop3 .
 loop4-again : tie.Need-loop4-again Inv-loop2 μ-loop2 Inv-loop4 μ-loop4 Inv-loop5 μ-loop5 Inv-loop6 μ-loop6 Inv-loop3 μ-loop3 Inv-loop7 μ-loop7 Inv-loop8 μ-loop8 Inv-loop9 μ-loop9 Inv-loop10 μ-loop10 Inv-loop12 μ-loop12 Inv-loop11 μ-loop11 Inv-loop13 μ-loop13 Inv-loop μ-loop
 loop4-again c =
     let c₁ = c .before .before .before .before .before .before .before .before .before .before .before .before in
-    (c .before .before .before .before .before .before .loop4 .inv .0, seeking-on noEdit (isEdit (getD (c₁ .loop3 .s .ready) 0 blank .id)) _ _ _ _ (c .before .before .before .before .before .loop4-test .taken) (ne-eqb _ _ (c .if3 .left)) (c .before .before .before .before .before .before .loop4 .inv .1))
+    (c .before .before .before .before .before .before .loop4 .inv .0, seeking-on noEdit (isEdit (getD (c₁ .loop3 .s .ready) 0 blank .id)) _ _ _ _ (c .before .before .before .before .before .loop4-test .taken) (ne-eqb _ _ (c .if6 .left)) (c .before .before .before .before .before .before .loop4 .inv .1))
 
 sub-m : tie.Need-sub-m Inv-loop2 μ-loop2 Inv-loop4 μ-loop4 Inv-loop5 μ-loop5 Inv-loop6 μ-loop6 Inv-loop3 μ-loop3 Inv-loop7 μ-loop7 Inv-loop8 μ-loop8 Inv-loop9 μ-loop9 Inv-loop10 μ-loop10 Inv-loop12 μ-loop12 Inv-loop11 μ-loop11 Inv-loop13 μ-loop13 Inv-loop μ-loop
-sub-m c = omega (arith, c .before .before .before .if4 .taken)
+sub-m c = omega (arith, c .before .before .before .if7 .taken)
 
 loop5-holds : tie.Need-loop5-holds Inv-loop2 μ-loop2 Inv-loop4 μ-loop4 Inv-loop5 μ-loop5 Inv-loop6 μ-loop6 Inv-loop3 μ-loop3 Inv-loop7 μ-loop7 Inv-loop8 μ-loop8 Inv-loop9 μ-loop9 Inv-loop10 μ-loop10 Inv-loop12 μ-loop12 Inv-loop11 μ-loop11 Inv-loop13 μ-loop13 Inv-loop μ-loop
 loop5-holds c =
-    let h = c .before .before .before .if4 .taken in
+    let h = c .before .before .before .if7 .taken in
     (omega (arith, c .before .before .before .before .before .loop4 .inv .0, h), record { fuel = c .before .before .before .before .before .before .counted .result - 1 - c .before .before .before .before .before .loop4 .j; exact = omega (arith, h); gives = refl })
 
 loop5-again : tie.Need-loop5-again Inv-loop2 μ-loop2 Inv-loop4 μ-loop4 Inv-loop5 μ-loop5 Inv-loop6 μ-loop6 Inv-loop3 μ-loop3 Inv-loop7 μ-loop7 Inv-loop8 μ-loop8 Inv-loop9 μ-loop9 Inv-loop10 μ-loop10 Inv-loop12 μ-loop12 Inv-loop11 μ-loop11 Inv-loop13 μ-loop13 Inv-loop μ-loop
@@ -673,22 +721,22 @@ loop5-again c = (c .before .before .loop5 .inv .0, shifting-on noEdit _ _ _ _ (c
 
 loop9-holds : tie.Need-loop9-holds Inv-loop2 μ-loop2 Inv-loop4 μ-loop4 Inv-loop5 μ-loop5 Inv-loop6 μ-loop6 Inv-loop3 μ-loop3 Inv-loop7 μ-loop7 Inv-loop8 μ-loop8 Inv-loop9 μ-loop9 Inv-loop10 μ-loop10 Inv-loop12 μ-loop12 Inv-loop11 μ-loop11 Inv-loop13 μ-loop13 Inv-loop μ-loop
 loop9-holds c =
-    let c₁ = c .before .before .before .before .before .before .before .before .before .before in
+    let c₁ = c .before .before .before .before .before .before .before .before .before .before .before .before .before .before .before .before .before .before .before .before .before .before in
     (counted-few (c₁ .loop .s .«active_len») (c .counted2 .ensures), seeking-id (c₁ .loop .s) _ (c .counted2 .ensures))
 
 loop9-again : tie.Need-loop9-again Inv-loop2 μ-loop2 Inv-loop4 μ-loop4 Inv-loop5 μ-loop5 Inv-loop6 μ-loop6 Inv-loop3 μ-loop3 Inv-loop7 μ-loop7 Inv-loop8 μ-loop8 Inv-loop9 μ-loop9 Inv-loop10 μ-loop10 Inv-loop12 μ-loop12 Inv-loop11 μ-loop11 Inv-loop13 μ-loop13 Inv-loop μ-loop
 loop9-again c =
     let c₁ = c .before .before .before .before .before .before .before .before in
-    (c .before .before .before .before .before .loop9 .inv .0, seeking-on noId (isId (c₁ .plan4 .given .0 .0)) _ _ _ _ (c .before .before .before .before .loop9-test .taken) (ne-eqb _ _ (c .if10 .left)) (c .before .before .before .before .before .loop9 .inv .1))
+    (c .before .before .before .before .before .loop9 .inv .0, seeking-on noId (isId (c₁ .plan5 .given .0 .0)) _ _ _ _ (c .before .before .before .before .loop9-test .taken) (ne-eqb _ _ (c .if13 .left)) (c .before .before .before .before .before .loop9 .inv .1))
 
 sought-id : (c : tie.Left-loop9 Inv-loop2 μ-loop2 Inv-loop4 μ-loop4 Inv-loop5 μ-loop5 Inv-loop6 μ-loop6 Inv-loop3 μ-loop3 Inv-loop7 μ-loop7 Inv-loop8 μ-loop8 Inv-loop9 μ-loop9 Inv-loop10 μ-loop10 Inv-loop12 μ-loop12 Inv-loop11 μ-loop11 Inv-loop13 μ-loop13 Inv-loop μ-loop) → (let l = c .before .loop9 in let s = c
-    .before .before .before .before .before .before .before .before .before .before .before .before .loop .s in let k = c .before .before .before .before .plan4 .given .0 .0 in
+    .before .before .before .before .before .before .before .before .before .before .before .before .before .before .before .before .before .before .before .before .before .before .before .before .loop .s in let k = c .before .before .before .before .plan5 .given .0 .0 in
     (l .i < c .before .before .counted2 .result → At (l .i) ≡ foundId (indexOf s) k) × (c .before .before .counted2 .result ≤ l .i → Nothing ≡ foundId (indexOf s) k))
 sought-id c =
-    let c₁ = c .before .before .before .before .before .before .before .before .before .before .before .before in
+    let c₁ = c .before .before .before .before .before .before .before .before .before .before .before .before .before .before .before .before .before .before .before .before .before .before .before .before in
     let l = c .before .loop9 in
     let s = c₁ .loop .s in
-    let k = c .before .before .before .before .plan4 .given .0 .0 in
+    let k = c .before .before .before .before .plan5 .given .0 .0 in
     let n = c .before .before .counted2 .result in
     ⊎-elim
     (λ w. ((λ h. absurd (omega (arith, w .left, h))), (λ h. sought-none noId (isId k) n (s .«active_map») (l .i) (foundId (indexOf s) k) h (l .inv .1))))
@@ -697,22 +745,22 @@ sought-id c =
 
 mul-event-6 : tie.Need-mul-event-6 Inv-loop2 μ-loop2 Inv-loop4 μ-loop4 Inv-loop5 μ-loop5 Inv-loop6 μ-loop6 Inv-loop3 μ-loop3 Inv-loop7 μ-loop7 Inv-loop8 μ-loop8 Inv-loop9 μ-loop9 Inv-loop10 μ-loop10 Inv-loop12 μ-loop12 Inv-loop11 μ-loop11 Inv-loop13 μ-loop13 Inv-loop μ-loop
 mul-event-6 c =
-    let h : c .before .before .loop9 .i < 256 = omega (arith, c .if11 .taken, c .before .before .loop9 .inv .0) in
+    let h : c .before .before .loop9 .i < 256 = omega (arith, c .if14 .taken, c .before .before .loop9 .inv .0) in
     search needs
 
 element-copy-out-event-3 : tie.Need-element-copy-out-event-3 Inv-loop2 μ-loop2 Inv-loop4 μ-loop4 Inv-loop5 μ-loop5 Inv-loop6 μ-loop6 Inv-loop3 μ-loop3 Inv-loop7 μ-loop7 Inv-loop8 μ-loop8 Inv-loop9 μ-loop9 Inv-loop10 μ-loop10 Inv-loop12 μ-loop12 Inv-loop11 μ-loop11 Inv-loop13 μ-loop13 Inv-loop μ-loop
 element-copy-out-event-3 c =
-    let h : c .before .before .loop9 .i < 256 = omega (arith, c .if11 .taken, c .before .before .loop9 .inv .0) in
+    let h : c .before .before .loop9 .i < 256 = omega (arith, c .if14 .taken, c .before .before .loop9 .inv .0) in
     search needs
 
 mul-event-7 : tie.Need-mul-event-7 Inv-loop2 μ-loop2 Inv-loop4 μ-loop4 Inv-loop5 μ-loop5 Inv-loop6 μ-loop6 Inv-loop3 μ-loop3 Inv-loop7 μ-loop7 Inv-loop8 μ-loop8 Inv-loop9 μ-loop9 Inv-loop10 μ-loop10 Inv-loop12 μ-loop12 Inv-loop11 μ-loop11 Inv-loop13 μ-loop13 Inv-loop μ-loop
 mul-event-7 c =
-    let h : c .before .before .before .before .loop9 .i < 256 = omega (arith, c .before .before .if11 .taken, c .before .before .before .before .loop9 .inv .0) in
+    let h : c .before .before .before .before .loop9 .i < 256 = omega (arith, c .before .before .if14 .taken, c .before .before .before .before .loop9 .inv .0) in
     search needs
 
 element-set-from-event-4 : tie.Need-element-set-from-event-4 Inv-loop2 μ-loop2 Inv-loop4 μ-loop4 Inv-loop5 μ-loop5 Inv-loop6 μ-loop6 Inv-loop3 μ-loop3 Inv-loop7 μ-loop7 Inv-loop8 μ-loop8 Inv-loop9 μ-loop9 Inv-loop10 μ-loop10 Inv-loop12 μ-loop12 Inv-loop11 μ-loop11 Inv-loop13 μ-loop13 Inv-loop μ-loop
 element-set-from-event-4 c =
-    let h : c .before .before .before .before .loop9 .i < 256 = omega (arith, c .before .before .if11 .taken, c .before .before .before .before .loop9 .inv .0) in
+    let h : c .before .before .before .before .loop9 .i < 256 = omega (arith, c .before .before .if14 .taken, c .before .before .before .before .loop9 .inv .0) in
     search needs
 
 loop-less-5 : tie.Need-loop-less-5 Inv-loop2 μ-loop2 Inv-loop4 μ-loop4 Inv-loop5 μ-loop5 Inv-loop6 μ-loop6 Inv-loop3 μ-loop3 Inv-loop7 μ-loop7 Inv-loop8 μ-loop8 Inv-loop9 μ-loop9 Inv-loop10 μ-loop10 Inv-loop12 μ-loop12 Inv-loop11 μ-loop11 Inv-loop13 μ-loop13 Inv-loop μ-loop
@@ -724,29 +772,35 @@ loop-again-5 : tie.Need-loop-again-5 Inv-loop2 μ-loop2 Inv-loop4 μ-loop4 Inv-l
 loop-again-5 c =
     let c₁ = c .before .before .before .before .before .before .before in
     let c₂ = c₁ .before .before .before .before .before .before .before .before in
-    let m = told (c₁ .before .before) (c₁ .plan4 .given .1) in
-    on-silent (c₁ .before .before) (m .0) (m .1) (m .2) _
-    (amended-active (withEdits (c₂ .loop .s) (c₂ .loop .edits)) (c₁ .plan4 .given .0 .0) (c₁ .plan4 .given .0 .1 .0) (sym (sought-id (c .before .before .before) .0 (c .before .before .if11 .taken))) (c .edited2 .ensures))
+    let c₃ = c₂ .before .before .before .before .before .before .before .before .before .before .before .before in
+    let m = told (c₁ .before .before) (c₁ .plan5 .given .1) in
+    let k = c₁ .plan5 .given .0 .0 in
+    let d = c₁ .plan5 .given .0 .1 .0 in
+    let s = withEdits (c₃ .loop .s) (c₃ .loop .edits) in
+    let h = sym (sought-id (c .before .before .before) .0 (c .before .before .if14 .taken)) in
+    on-silent (c₁ .before .before) (m .0) (m .1) _ (c₁ .before .before .before .before .silent .ensures ∙ ap (λ (n : ℕ). withRefusal n (silentLeft (c₂ .r .given .0 .0))) (sym (m .2 ∙ accepted-active s k (d .«end_time») h))) _
+    (amended-active s k d h (c .edited2 .ensures))
 
 loop10-holds : tie.Need-loop10-holds Inv-loop2 μ-loop2 Inv-loop4 μ-loop4 Inv-loop5 μ-loop5 Inv-loop6 μ-loop6 Inv-loop3 μ-loop3 Inv-loop7 μ-loop7 Inv-loop8 μ-loop8 Inv-loop9 μ-loop9 Inv-loop10 μ-loop10 Inv-loop12 μ-loop12 Inv-loop11 μ-loop11 Inv-loop13 μ-loop13 Inv-loop μ-loop
 loop10-holds c =
-    let c₁ = c .before .before .before .before .before .before .before .before .before .before .before .before .before .before .before .before in
+    let c₁ = c .before .before .before .before .before .before .before .before .before .before .before .before .before .before .before .before .before .before .before .before .before .before .before .before .before .before .before .before in
     (counted-few (c₁ .loop .edits .len) (c .counted3 .ensures), seeking-edit (c₁ .loop .edits) _ (c .counted3 .ensures))
 
 loop10-again : tie.Need-loop10-again Inv-loop2 μ-loop2 Inv-loop4 μ-loop4 Inv-loop5 μ-loop5 Inv-loop6 μ-loop6 Inv-loop3 μ-loop3 Inv-loop7 μ-loop7 Inv-loop8 μ-loop8 Inv-loop9 μ-loop9 Inv-loop10 μ-loop10 Inv-loop12 μ-loop12 Inv-loop11 μ-loop11 Inv-loop13 μ-loop13 Inv-loop μ-loop
 loop10-again c =
     let c₁ = c .before .before .before .before .before .before .before .before .before .before .before .before .before .before .before in
-    (c .before .before .before .before .before .before .loop10 .inv .0, seeking-on noEdit (isEdit (c₁ .plan4 .given .0 .0)) _ _ _ _ (c .before .before .before .before .before .loop10-test .taken) (ne-eqb _ _ (c .if13 .left)) (c .before .before .before .before .before .before .loop10 .inv .1))
+    (c .before .before .before .before .before .before .loop10 .inv .0, seeking-on noEdit (isEdit (c₁ .plan5 .given .0 .0)) _ _ _ _ (c .before .before .before .before .before .loop10-test .taken) (ne-eqb _ _ (c .if16 .left)) (c .before .before .before .before .before .before .loop10 .inv .1))
 
 sought-stored : (c : tie.Left-loop10 Inv-loop2 μ-loop2 Inv-loop4 μ-loop4 Inv-loop5 μ-loop5 Inv-loop6 μ-loop6 Inv-loop3 μ-loop3 Inv-loop7 μ-loop7 Inv-loop8 μ-loop8 Inv-loop9 μ-loop9 Inv-loop10 μ-loop10 Inv-loop12 μ-loop12 Inv-loop11 μ-loop11 Inv-loop13 μ-loop13 Inv-loop μ-loop) → (let l = c .before .loop10 in let m = c
-    .before .before .before .before .before .before .before .before .before .before .before .before .before .before .before .before .before .before .loop .edits in let k = c .before .before .before .before .before .before .before .before .before .before .plan4 .given .0 .0 in
+    .before .before .before .before .before .before .before .before .before .before .before .before .before .before .before .before .before .before .before .before .before .before .before .before .before .before .before .before .before .before .loop .edits in let k = c .before .before .before .before .before .before .before .before .before .before .plan5
+    .given .0 .0 in
     (l .j < c .before .before .counted3 .result → At (l .j) ≡ placed m k) × (c .before .before .counted3 .result ≤ l .j → Nothing ≡ placed m k))
 sought-stored c =
     let c₁ = c .before .before .before .before .before .before .before .before .before .before in
-    let c₂ = c₁ .before .before .before .before .before .before .before .before in
+    let c₂ = c₁ .before .before .before .before .before .before .before .before .before .before .before .before .before .before .before .before .before .before .before .before in
     let l = c .before .loop10 in
     let m = c₂ .loop .edits in
-    let k = c₁ .plan4 .given .0 .0 in
+    let k = c₁ .plan5 .given .0 .0 in
     let n = c .before .before .counted3 .result in
     ⊎-elim
     (λ w. ((λ h. absurd (omega (arith, w .left, h))), (λ h. sought-none noEdit (isEdit k) n (m .items) (l .j) (placed m k) h (l .inv .1))))
@@ -755,8 +809,9 @@ sought-stored c =
 
 -- the event does not sound, and the edit is not past
 unsounding : (c : tie.Left-loop10 Inv-loop2 μ-loop2 Inv-loop4 μ-loop4 Inv-loop5 μ-loop5 Inv-loop6 μ-loop6 Inv-loop3 μ-loop3 Inv-loop7 μ-loop7 Inv-loop8 μ-loop8 Inv-loop9 μ-loop9 Inv-loop10 μ-loop10 Inv-loop12 μ-loop12 Inv-loop11 μ-loop11 Inv-loop13 μ-loop13 Inv-loop μ-loop) → foundId (indexOf (c
-    .before .before .before .before .before .before .before .before .before .before .before .before .before .before .before .before .before .before .loop .s)) (c .before .before .before .before .before .before .before .before .before .before .plan4 .given .0 .0) ≡ Nothing
-unsounding c = sym (sought-id (c .before .before .before .before .before .before) .1 (c .before .before .before .before .before .if11 .left))
+    .before .before .before .before .before .before .before .before .before .before .before .before .before .before .before .before .before .before .before .before .before .before .before .before .before .before .before .before .before .before .loop .s)) (c .before .before .before .before .before .before .before .before .before .before .plan5 .given .0 .0) ≡
+    Nothing
+unsounding c = sym (sought-id (c .before .before .before .before .before .before) .1 (c .before .before .before .before .before .if14 .left))
 
 loop-less-6 : tie.Need-loop-less-6 Inv-loop2 μ-loop2 Inv-loop4 μ-loop4 Inv-loop5 μ-loop5 Inv-loop6 μ-loop6 Inv-loop3 μ-loop3 Inv-loop7 μ-loop7 Inv-loop8 μ-loop8 Inv-loop9 μ-loop9 Inv-loop10 μ-loop10 Inv-loop12 μ-loop12 Inv-loop11 μ-loop11 Inv-loop13 μ-loop13 Inv-loop μ-loop
 loop-less-6 c =
@@ -767,9 +822,17 @@ loop-again-6 : tie.Need-loop-again-6 Inv-loop2 μ-loop2 Inv-loop4 μ-loop4 Inv-l
 loop-again-6 c =
     let c₁ = c .before .before .before .before .before .before .before .before .before .before .before in
     let c₂ = c₁ .before .before .before .before .before .before .before .before in
-    let m = told (c₁ .before .before) (c₁ .plan4 .given .1) in
-    on-silent (c₁ .before .before) (m .0) (m .1) (m .2) _
-    (stored-at (c₂ .loop .s) (c₂ .loop .edits) (c₁ .plan4 .given .0 .0) (c₁ .plan4 .given .0 .1 .0) (unsounding (c .before)) (not-true _ (c .before .before .before .before .if12 .taken)) (sought-stored (c .before) .0 (c .if14 .taken)))
+    let c₃ = c₂ .before .before .before .before .before .before .before .before .before .before .before .before in
+    let m = told (c₁ .before .before) (c₁ .plan5 .given .1) in
+    let k = c₁ .plan5 .given .0 .0 in
+    let d = c₁ .plan5 .given .0 .1 .0 in
+    let s = c₃ .loop .s in
+    let e = c₃ .loop .edits in
+    let u = unsounding (c .before) in
+    let h = not-true _ (c .before .before .before .before .if15 .taken) in
+    let q = sought-stored (c .before) .0 (c .if17 .taken) in
+    on-silent (c₁ .before .before) (m .0) (m .1) _ (c₁ .before .before .before .before .silent .ensures ∙ ap (λ (n : ℕ). withRefusal n (silentLeft (c₂ .r .given .0 .0))) (sym (m .2 ∙ accepted-at s e k d u h q))) _
+    (stored-at s e k d u h q)
 
 loop-less-7 : tie.Need-loop-less-7 Inv-loop2 μ-loop2 Inv-loop4 μ-loop4 Inv-loop5 μ-loop5 Inv-loop6 μ-loop6 Inv-loop3 μ-loop3 Inv-loop7 μ-loop7 Inv-loop8 μ-loop8 Inv-loop9 μ-loop9 Inv-loop10 μ-loop10 Inv-loop12 μ-loop12 Inv-loop11 μ-loop11 Inv-loop13 μ-loop13 Inv-loop μ-loop
 loop-less-7 c =
@@ -780,9 +843,17 @@ loop-again-7 : tie.Need-loop-again-7 Inv-loop2 μ-loop2 Inv-loop4 μ-loop4 Inv-l
 loop-again-7 c =
     let c₁ = c .before .before .before .before .before .before .before .before .before .before .before .before in
     let c₂ = c₁ .before .before .before .before .before .before .before .before in
-    let m = told (c₁ .before .before) (c₁ .plan4 .given .1) in
-    on-silent (c₁ .before .before) (m .0) (m .1) (m .2) _
-    (stored-last (c₂ .loop .s) (c₂ .loop .edits) (c₁ .plan4 .given .0 .0) (c₁ .plan4 .given .0 .1 .0) (unsounding (c .before .before)) (not-true _ (c .before .before .before .before .before .if12 .taken)) (sought-stored (c .before .before) .1 (c .before .if14 .left)) (c .if15 .taken))
+    let c₃ = c₂ .before .before .before .before .before .before .before .before .before .before .before .before in
+    let m = told (c₁ .before .before) (c₁ .plan5 .given .1) in
+    let k = c₁ .plan5 .given .0 .0 in
+    let d = c₁ .plan5 .given .0 .1 .0 in
+    let s = c₃ .loop .s in
+    let e = c₃ .loop .edits in
+    let u = unsounding (c .before .before) in
+    let h = not-true _ (c .before .before .before .before .before .if15 .taken) in
+    let q = sought-stored (c .before .before) .1 (c .before .if17 .left) in
+    on-silent (c₁ .before .before) (m .0) (m .1) _ (c₁ .before .before .before .before .silent .ensures ∙ ap (λ (n : ℕ). withRefusal n (silentLeft (c₂ .r .given .0 .0))) (sym (m .2 ∙ accepted-last s e k d u h q (c .if18 .taken)))) _
+    (stored-last s e k d u h q (c .if18 .taken))
 
 loop-less-8 : tie.Need-loop-less-8 Inv-loop2 μ-loop2 Inv-loop4 μ-loop4 Inv-loop5 μ-loop5 Inv-loop6 μ-loop6 Inv-loop3 μ-loop3 Inv-loop7 μ-loop7 Inv-loop8 μ-loop8 Inv-loop9 μ-loop9 Inv-loop10 μ-loop10 Inv-loop12 μ-loop12 Inv-loop11 μ-loop11 Inv-loop13 μ-loop13 Inv-loop μ-loop
 loop-less-8 c =
@@ -793,9 +864,17 @@ loop-again-8 : tie.Need-loop-again-8 Inv-loop2 μ-loop2 Inv-loop4 μ-loop4 Inv-l
 loop-again-8 c =
     let c₁ = c .before .before .before .before .before .before .before .before .before .before .before .before in
     let c₂ = c₁ .before .before .before .before .before .before .before .before in
-    let m = told (c₁ .before .before) (c₁ .plan4 .given .1) in
-    on-silent (c₁ .before .before) (m .0) (m .1) (m .2) _
-    (stored-nowhere (c₂ .loop .s) (c₂ .loop .edits) (c₁ .plan4 .given .0 .0) (c₁ .plan4 .given .0 .1 .0) (unsounding (c .before .before)) (not-true _ (c .before .before .before .before .before .if12 .taken)) (sought-stored (c .before .before) .1 (c .before .if14 .left)) (c .if15 .left))
+    let c₃ = c₂ .before .before .before .before .before .before .before .before .before .before .before .before in
+    let m = told (c₁ .before .before) (c₁ .plan5 .given .1) in
+    let k = c₁ .plan5 .given .0 .0 in
+    let d = c₁ .plan5 .given .0 .1 .0 in
+    let s = c₃ .loop .s in
+    let e = c₃ .loop .edits in
+    let u = unsounding (c .before .before) in
+    let h = not-true _ (c .before .before .before .before .before .if15 .taken) in
+    let q = sought-stored (c .before .before) .1 (c .before .if17 .left) in
+    on-silent (c₁ .before .before) (m .0) (m .1) _ (ap (withRefusal 9) (c₁ .before .before .before .before .silent .ensures) ∙ ap (λ (n : ℕ). withRefusal n (silentLeft (c₂ .r .given .0 .0))) (sym (m .2 ∙ refused-nowhere s e k d u h q (c .if18 .left)))) _
+    (stored-nowhere s e k d u h q (c .if18 .left))
 
 loop-less-9 : tie.Need-loop-less-9 Inv-loop2 μ-loop2 Inv-loop4 μ-loop4 Inv-loop5 μ-loop5 Inv-loop6 μ-loop6 Inv-loop3 μ-loop3 Inv-loop7 μ-loop7 Inv-loop8 μ-loop8 Inv-loop9 μ-loop9 Inv-loop10 μ-loop10 Inv-loop12 μ-loop12 Inv-loop11 μ-loop11 Inv-loop13 μ-loop13 Inv-loop μ-loop
 loop-less-9 c =
@@ -806,9 +885,15 @@ loop-again-9 : tie.Need-loop-again-9 Inv-loop2 μ-loop2 Inv-loop4 μ-loop4 Inv-l
 loop-again-9 c =
     let c₁ = c .before .before .before .before .before .before .before in
     let c₂ = c₁ .before .before .before .before .before .before .before .before in
-    let m = told (c₁ .before .before) (c₁ .plan4 .given .1) in
-    on-silent (c₁ .before .before) (m .0) (m .1) (m .2) _
-    (amended-past (withEdits (c₂ .loop .s) (c₂ .loop .edits)) (c₁ .plan4 .given .0 .0) (c₁ .plan4 .given .0 .1 .0) (sym (sought-id (c .before .before .before) .1 (c .before .before .if11 .left))) (not-false _ (c .if12 .left)))
+    let c₃ = c₂ .before .before .before .before .before .before .before .before .before .before .before .before in
+    let m = told (c₁ .before .before) (c₁ .plan5 .given .1) in
+    let k = c₁ .plan5 .given .0 .0 in
+    let d = c₁ .plan5 .given .0 .1 .0 in
+    let s = withEdits (c₃ .loop .s) (c₃ .loop .edits) in
+    let u = sym (sought-id (c .before .before .before) .1 (c .before .before .if14 .left)) in
+    let h = not-false _ (c .if15 .left) in
+    on-silent (c₁ .before .before) (m .0) (m .1) _ (c₁ .before .before .before .before .silent .ensures ∙ ap (λ (n : ℕ). withRefusal n (silentLeft (c₂ .r .given .0 .0))) (sym (m .2 ∙ accepted-past s k (d .«end_time») u h))) _
+    (amended-past s k d u h)
 
 loop-less-10 : tie.Need-loop-less-10 Inv-loop2 μ-loop2 Inv-loop4 μ-loop4 Inv-loop5 μ-loop5 Inv-loop6 μ-loop6 Inv-loop3 μ-loop3 Inv-loop7 μ-loop7 Inv-loop8 μ-loop8 Inv-loop9 μ-loop9 Inv-loop10 μ-loop10 Inv-loop12 μ-loop12 Inv-loop11 μ-loop11 Inv-loop13 μ-loop13 Inv-loop μ-loop
 loop-less-10 c = less (c .before .before .before .before)
@@ -816,9 +901,9 @@ loop-less-10 c = less (c .before .before .before .before)
 loop-again-10 : tie.Need-loop-again-10 Inv-loop2 μ-loop2 Inv-loop4 μ-loop4 Inv-loop5 μ-loop5 Inv-loop6 μ-loop6 Inv-loop3 μ-loop3 Inv-loop7 μ-loop7 Inv-loop8 μ-loop8 Inv-loop9 μ-loop9 Inv-loop10 μ-loop10 Inv-loop12 μ-loop12 Inv-loop11 μ-loop11 Inv-loop13 μ-loop13 Inv-loop μ-loop
 unfolding ofBits
 loop-again-10 c =
-    let c₁ = c .before .before .before .before .before .before .before .before .before .before in
-    let m = told (c .before .before .before .before) (c .before .before .enum-told3 .given .1) in
-    on-silent (c .before .before .before .before) (m .0) (m .1) (λ z. omega arith) _ (cleared (withEdits (c₁ .loop .s) (c₁ .loop .edits)) (c .before .gone-all .ensures) (c .lowest .ensures) (m .2))
+    let c₁ = c .before .before .before .before .before .before .before .before .before .before .before .before .before .before .before .before .before .before .before .before .before .before in
+    let m = told (c .before .before .before .before) (c .before .before .enum-told2 .given .1) in
+    on-silent (c .before .before .before .before) (m .0) (m .1) _ (c .before .before .before .before .before .before .silent .ensures) _ (cleared (withEdits (c₁ .loop .s) (c₁ .loop .edits)) (c .before .gone-all .ensures) (c .lowest .ensures) (m .2))
 
 -- ---- everything waits again
 
@@ -829,35 +914,35 @@ loop11-holds : tie.Need-loop11-holds Inv-loop2 μ-loop2 Inv-loop4 μ-loop4 Inv-l
 loop11-holds c = (omega (arith, c .before .least2 .ensures), omega (arith, c .least3 .ensures), record { fuel = c .before .least2 .result + c .least3 .result; exact = omega arith; gives = refl })
 
 -- the event that the code takes is that of the definition
-held-event : (c : tie.Joined16 Inv-loop2 μ-loop2 Inv-loop4 μ-loop4 Inv-loop5 μ-loop5 Inv-loop6 μ-loop6 Inv-loop3 μ-loop3 Inv-loop7 μ-loop7 Inv-loop8 μ-loop8 Inv-loop9 μ-loop9 Inv-loop10 μ-loop10 Inv-loop12 μ-loop12 Inv-loop11 μ-loop11 Inv-loop13 μ-loop13 Inv-loop μ-loop) → (c .if16 .event ≡ heldAt (c .before .before .before .before .before .least2 .result)
+held-event : (c : tie.Joined19 Inv-loop2 μ-loop2 Inv-loop4 μ-loop4 Inv-loop5 μ-loop5 Inv-loop6 μ-loop6 Inv-loop3 μ-loop3 Inv-loop7 μ-loop7 Inv-loop8 μ-loop8 Inv-loop9 μ-loop9 Inv-loop10 μ-loop10 Inv-loop12 μ-loop12 Inv-loop11 μ-loop11 Inv-loop13 μ-loop13 Inv-loop μ-loop) → (c .if19 .event ≡ heldAt (c .before .before .before .before .before .least2 .result)
     (c .before .before .before .loop11 .s) (c .before .before .before .loop11 .k))
 held-event c =
     let l = c .before .before .before .loop11 in
     let p = c .before .before .before .before .before .least2 .result in
-    ⊎-elim (λ w. w .2 ∙ rw (lt-ltb (l .k) p (w .0 .taken))) (λ w. w .2 ∙ rw (le-ltb (l .k) p (w .0 .left))) (c .if16 .came)
+    ⊎-elim (λ w. w .2 ∙ rw (lt-ltb (l .k) p (w .0 .taken))) (λ w. w .2 ∙ rw (le-ltb (l .k) p (w .0 .left))) (c .if19 .came)
 
 loop12-holds : tie.Need-loop12-holds Inv-loop2 μ-loop2 Inv-loop4 μ-loop4 Inv-loop5 μ-loop5 Inv-loop6 μ-loop6 Inv-loop3 μ-loop3 Inv-loop7 μ-loop7 Inv-loop8 μ-loop8 Inv-loop9 μ-loop9 Inv-loop10 μ-loop10 Inv-loop12 μ-loop12 Inv-loop11 μ-loop11 Inv-loop13 μ-loop13 Inv-loop μ-loop
-loop12-holds c = (c .if17 .taken, rising-in)
+loop12-holds c = (c .if20 .taken, rising-in)
 
 loop12-again : tie.Need-loop12-again Inv-loop2 μ-loop2 Inv-loop4 μ-loop4 Inv-loop5 μ-loop5 Inv-loop6 μ-loop6 Inv-loop3 μ-loop3 Inv-loop7 μ-loop7 Inv-loop8 μ-loop8 Inv-loop9 μ-loop9 Inv-loop10 μ-loop10 Inv-loop12 μ-loop12 Inv-loop11 μ-loop11 Inv-loop13 μ-loop13 Inv-loop μ-loop
-loop12-again c = (c .before .before .before .before .loop12 .inv .0, rising-in-on (c .before .before .before .loop12-test .taken) (sym (c .before .precedes3 .ensures) ∙ not-false _ (c .if18 .left)) (c .before .before .before .before .loop12 .inv .1))
+loop12-again c = (c .before .before .before .before .loop12 .inv .0, rising-in-on (c .before .before .before .loop12-test .taken) (sym (c .before .precedes3 .ensures) ∙ not-false _ (c .if21 .left)) (c .before .before .before .before .loop12 .inv .1))
 
 loop11-again : tie.Need-loop11-again Inv-loop2 μ-loop2 Inv-loop4 μ-loop4 Inv-loop5 μ-loop5 Inv-loop6 μ-loop6 Inv-loop3 μ-loop3 Inv-loop7 μ-loop7 Inv-loop8 μ-loop8 Inv-loop9 μ-loop9 Inv-loop10 μ-loop10 Inv-loop12 μ-loop12 Inv-loop11 μ-loop11 Inv-loop13 μ-loop13 Inv-loop μ-loop
 loop11-again c =
-    let c₁ = c .before .before .before .before .before .before .before .before .before .before .before .before .before .before .before .before .before .before in
+    let c₁ = c .before .before .before .before .before .before .before .before .before .before .before .before .before .before .before .before .before .before .before .before .before .before .before .before .before .before .before .before .before .before in
     let l = c .before .before .before .before .before .before .loop11 in
     let w = c .before .loop12 .inv in
     let y : Sequencer → Sequencer = λ x. withEdits x (c₁ .loop .edits) in
     let g = ⊎-elim (λ x. risen-in-root (w .0) (x .left) (w .1)) (λ x. risen-in-stop (w .0) (sym (x .2 .ensures) ∙ not-true _ (x .3 .taken)) (w .1)) (c .loop12-test .came) in
-    (l .inv .0, l .inv .1, readying-on _ _ _ _ _ _ _ (held-event (c .before .before .before)) (ap y g ∙ pushed-beside (l .s) (c₁ .loop .edits) (c .before .before .before .if16 .event)) (c .before .before .before .before .before .loop11-test .taken) (l .inv .2))
+    (l .inv .0, l .inv .1, readying-on _ _ _ _ _ _ _ (held-event (c .before .before .before)) (ap y g ∙ pushed-beside (l .s) (c₁ .loop .edits) (c .before .before .before .if19 .event)) (c .before .before .before .before .before .loop11-test .taken) (l .inv .2))
 
 loop11-again-2 : tie.Need-loop11-again-2 Inv-loop2 μ-loop2 Inv-loop4 μ-loop4 Inv-loop5 μ-loop5 Inv-loop6 μ-loop6 Inv-loop3 μ-loop3 Inv-loop7 μ-loop7 Inv-loop8 μ-loop8 Inv-loop9 μ-loop9 Inv-loop10 μ-loop10 Inv-loop12 μ-loop12 Inv-loop11 μ-loop11 Inv-loop13 μ-loop13 Inv-loop μ-loop
 loop11-again-2 c =
     let l = c .before .before .before .before .loop11 in
-    (l .inv .0, l .inv .1, readying-on _ _ _ _ _ _ _ (held-event (c .before)) (full _ _ (c .if17 .left)) (c .before .before .before .loop11-test .taken) (l .inv .2))
+    (l .inv .0, l .inv .1, readying-on _ _ _ _ _ _ _ (held-event (c .before)) (full _ _ (c .if20 .left)) (c .before .before .before .loop11-test .taken) (l .inv .2))
 
 loop13-holds : tie.Need-loop13-holds Inv-loop2 μ-loop2 Inv-loop4 μ-loop4 Inv-loop5 μ-loop5 Inv-loop6 μ-loop6 Inv-loop3 μ-loop3 Inv-loop7 μ-loop7 Inv-loop8 μ-loop8 Inv-loop9 μ-loop9 Inv-loop10 μ-loop10 Inv-loop12 μ-loop12 Inv-loop11 μ-loop11 Inv-loop13 μ-loop13 Inv-loop μ-loop
-loop13-holds c = (rewound-few (c .before .before .before .before .before .before .plan5 .given .0 .0 .rewinds) (c .before .before .loop11 .s .«ready_len») (c .rewound .ensures), rewinding-start)
+loop13-holds c = (rewound-few (c .before .before .before .before .before .before .plan6 .given .0 .0 .rewinds) (c .before .before .loop11 .s .«ready_len») (c .rewound .ensures), rewinding-start)
 
 loop13-again : tie.Need-loop13-again Inv-loop2 μ-loop2 Inv-loop4 μ-loop4 Inv-loop5 μ-loop5 Inv-loop6 μ-loop6 Inv-loop3 μ-loop3 Inv-loop7 μ-loop7 Inv-loop8 μ-loop8 Inv-loop9 μ-loop9 Inv-loop10 μ-loop10 Inv-loop12 μ-loop12 Inv-loop11 μ-loop11 Inv-loop13 μ-loop13 Inv-loop μ-loop
 loop13-again c = (c .before .before .before .loop13 .inv .0, rewinding-on (c .rewind .ensures) (c .before .before .loop13-test .taken) (c .before .before .before .loop13 .inv .1))
@@ -870,47 +955,35 @@ loop-less-11 c =
 loop-again-11 : tie.Need-loop-again-11 Inv-loop2 μ-loop2 Inv-loop4 μ-loop4 Inv-loop5 μ-loop5 Inv-loop6 μ-loop6 Inv-loop3 μ-loop3 Inv-loop7 μ-loop7 Inv-loop8 μ-loop8 Inv-loop9 μ-loop9 Inv-loop10 μ-loop10 Inv-loop12 μ-loop12 Inv-loop11 μ-loop11 Inv-loop13 μ-loop13 Inv-loop μ-loop
 loop-again-11 c =
     let c₁ = c .before .before .before .before .before .before .before in
-    let c₂ = c₁ .before .before .before .before .before .before .before .before .before .before in
-    let m = told (c₁ .before .before .before .before) (c₁ .before .before .plan5 .given .1) in
-    on-silent (c₁ .before .before .before .before) (m .0) (m .1) (λ z. omega arith) _
-    (requeued (c₁ .before .before .plan5 .given .0 .0) (withEdits (c₂ .loop .s) (c₂ .loop .edits)) (readied-all (withEdits (c₂ .loop .s) (c₂ .loop .edits)) (c₁ .least2 .ensures) (c .before .before .before .before .before .before .least3 .ensures) refl (c .before .before .before .before .loop11-test .left) (c .before .before .before .before .before .loop11
+    let c₂ = c₁ .before .before .before .before .before .before .before .before .before .before .before .before .before .before .before .before .before .before .before .before .before .before in
+    let m = told (c₁ .before .before .before .before) (c₁ .before .before .plan6 .given .1) in
+    on-silent (c₁ .before .before .before .before) (m .0) (m .1) _ (c₁ .before .before .before .before .before .before .silent .ensures) _
+    (requeued (c₁ .before .before .plan6 .given .0 .0) (withEdits (c₂ .loop .s) (c₂ .loop .edits)) (readied-all (withEdits (c₂ .loop .s) (c₂ .loop .edits)) (c₁ .least2 .ensures) (c .before .before .before .before .before .before .least3 .ensures) refl (c .before .before .before .before .loop11-test .left) (c .before .before .before .before .before .loop11
     .inv .2)) (c .before .before .before .rewound .ensures) (rewound-all (c .before .loop13-test .left) (c .before .before .loop13 .inv .1)) (c .lowest2 .ensures))
 
-same-length-5 : tie.Need-same-length-5 Inv-loop2 μ-loop2 Inv-loop4 μ-loop4 Inv-loop5 μ-loop5 Inv-loop6 μ-loop6 Inv-loop3 μ-loop3 Inv-loop7 μ-loop7 Inv-loop8 μ-loop8 Inv-loop9 μ-loop9 Inv-loop10 μ-loop10 Inv-loop12 μ-loop12 Inv-loop11 μ-loop11 Inv-loop13 μ-loop13 Inv-loop μ-loop
-same-length-5 c =
-    let c₁ = c .before .before .before .before .before .before .before .before in
-    let c₂ = c₁ .before .before .before .before .before .before .before .before .before .before .before .before .before in
-    let m = told c₁ (c .before .before .before .before .before .before .enum-told4 .given .1) in
-    ap length (c .before .before .before .before .apply .ensures .1 ∙ m .1) ∙ c₁ .before .before .before .before .before .before .loop .inv .long ∙ sym (c₂ .pre)
-
-same-length-6 : tie.Need-same-length-6 Inv-loop2 μ-loop2 Inv-loop4 μ-loop4 Inv-loop5 μ-loop5 Inv-loop6 μ-loop6 Inv-loop3 μ-loop3 Inv-loop7 μ-loop7 Inv-loop8 μ-loop8 Inv-loop9 μ-loop9 Inv-loop10 μ-loop10 Inv-loop12 μ-loop12 Inv-loop11 μ-loop11 Inv-loop13 μ-loop13 Inv-loop μ-loop
-same-length-6 c =
-    let c₁ = c .before .before .before .before .before .before .before .before .before .before .before .before .before .before in
-    same-long (c₁ .loop .inv .put)
-
-returns-3 : tie.Need-returns-3 Inv-loop2 μ-loop2 Inv-loop4 μ-loop4 Inv-loop5 μ-loop5 Inv-loop6 μ-loop6 Inv-loop3 μ-loop3 Inv-loop7 μ-loop7 Inv-loop8 μ-loop8 Inv-loop9 μ-loop9 Inv-loop10 μ-loop10 Inv-loop12 μ-loop12 Inv-loop11 μ-loop11 Inv-loop13 μ-loop13 Inv-loop μ-loop
-returns-3 c =
-    let c₁ = c .before .before .before .before .before .before .before .before in
-    let v = c₁ .before .before .before .r .given .0 in
-    ends-refused (c₁ .before .before .before .before .before .before .loop .inv) (v .0) (v .1 .0) (v .1 .1 .0) (reads c₁) (c .before .before .before .before .apply .result) _ (c .before .before .before .before .apply .ensures .0) (c .before .before .before .before .apply .ensures .1) (c .if19 .taken)
+slice-aggregate-apply : tie.Need-slice-aggregate-apply Inv-loop2 μ-loop2 Inv-loop4 μ-loop4 Inv-loop5 μ-loop5 Inv-loop6 μ-loop6 Inv-loop3 μ-loop3 Inv-loop7 μ-loop7 Inv-loop8 μ-loop8 Inv-loop9 μ-loop9 Inv-loop10 μ-loop10 Inv-loop12 μ-loop12 Inv-loop11 μ-loop11 Inv-loop13 μ-loop13 Inv-loop μ-loop
+slice-aggregate-apply c =
+    let c₁ = c .before .before .before .before .before .before .before .before .before .before .before .before .before .before .before .before .before .before .before .before .before in
+    sym (c₁ .loop .inv .long)
 
 loop-less-12 : tie.Need-loop-less-12 Inv-loop2 μ-loop2 Inv-loop4 μ-loop4 Inv-loop5 μ-loop5 Inv-loop6 μ-loop6 Inv-loop3 μ-loop3 Inv-loop7 μ-loop7 Inv-loop8 μ-loop8 Inv-loop9 μ-loop9 Inv-loop10 μ-loop10 Inv-loop12 μ-loop12 Inv-loop11 μ-loop11 Inv-loop13 μ-loop13 Inv-loop μ-loop
 loop-less-12 c =
-    let c₁ = c .before .before .before .before .before .before .before .before .before .before in
+    let c₁ = c .before .before .before .before .before .before .before in
     less c₁
 
 loop-again-12 : tie.Need-loop-again-12 Inv-loop2 μ-loop2 Inv-loop4 μ-loop4 Inv-loop5 μ-loop5 Inv-loop6 μ-loop6 Inv-loop3 μ-loop3 Inv-loop7 μ-loop7 Inv-loop8 μ-loop8 Inv-loop9 μ-loop9 Inv-loop10 μ-loop10 Inv-loop12 μ-loop12 Inv-loop11 μ-loop11 Inv-loop13 μ-loop13 Inv-loop μ-loop
 loop-again-12 c =
-    let c₁ = c .before .before .before .before .before .before .before .before in
-    let c₂ = c₁ .before .before .before .before .before .before .before .before in
-    let c₃ = c₂ .before .before .before .before .before .before .before in
-    let v = c₁ .before .before .before .before .before .r .given .0 in
-    let l = c₂ .loop in
+    let c₁ = c .before .before .before .before .before .before .before in
+    let c₂ = c₁ .before .before .before .before .before .before .before .before .before .before .before .before .before .before .before in
+    let c₃ = c₂ .before .before .before .before .before .before .before .before .before .before in
+    let v = c₁ .before .before .before .before .before .before .r .given .0 in
+    let l = c₂ .before .before .before .loop in
     let a = c₃ .args in
-    let m = told (c₁ .before .before) (c₁ .enum-told4 .given .1) in
-    subst (λ (o : List Float). Rolling (a .pool .now) (a .tape .now) (a .out .now) (l .out) (a .samples .now) o (c .before .before .before .before .before .before .apply .result .sequencer) (v .1 .1 .0) (l .at)) (sym (c .before .before .before .before .before .before .apply .ensures .1 ∙ m .1))
-    (on-silent (c₁ .before .before) (m .0) (m .1) (λ z. c .before .before .if19 .left (ap (λ (x : Applied). x .refusal) (c .before .before .before .before .before .before .apply .ensures .0) ∙ z)) (c .before .before .before .before .before .before .apply .result .sequencer) (ap (λ (x : Applied). x .sequencer) (c
-    .before .before .before .before .before .before .apply .ensures .0)))
+    let y = c .before .before .before .apply in
+    let m = told c₁ (c .before .before .before .before .before .enum-told3 .given .1) in
+    let h = withRefusal (y .result .refusal) (c₁ .before .before .silent .result) in
+    subst (λ (o : List Float). Rolling (a .form) (a .pool .now) (a .tape .now) (a .whole) (a .sequencer) (a .cursor) (a .out .now) (c₂ .leave .last .1 .1 .1 .1 .0) (y .result .sequencer) (v .1 .1 .0) o h (c₂ .leave .result)) (sym (y .ensures .1 ∙ m .1))
+    (on-silent c₁ (m .0) (m .1) h (ap (withRefusal (y .result .refusal)) (c₁ .before .before .silent .ensures) ∙ ap (λ (x : Applied). withRefusal (x .refusal) (silentLeft (v .0))) (y .ensures .0)) (y .result .sequencer) (ap (λ (x : Applied). x .sequencer) (y .ensures .0)))
 
 -- ---- needs that are found, each by itself: together they are too many for one search
 
@@ -1026,34 +1099,36 @@ pub run-spec : {M : Type 1} → statement M
 run-spec =
     tie.close
     (tie.spec Inv-loop2 μ-loop2 Inv-loop4 μ-loop4 Inv-loop5 μ-loop5 Inv-loop6 μ-loop6 Inv-loop3 μ-loop3 Inv-loop7 μ-loop7 Inv-loop8 μ-loop8 Inv-loop9 μ-loop9 Inv-loop10 μ-loop10 Inv-loop12 μ-loop12 Inv-loop11 μ-loop11 Inv-loop13 μ-loop13 Inv-loop μ-loop
-    (λ c κs. search needs) loop-holds (λ c κs. search needs) (λ c. search needs) same-length same-length-2 returns (λ c κs. search needs)
-    sub-plan-of (λ c κs. search needs) (λ c. search needs) loop-less loop-again (λ c. search needs) same-length-3 same-length-4 returns-2
-    (λ c. search needs) mul-event element-set-from-event mul-id element-set-from-id add-s (λ c κs. search needs) loop-less-2 loop-again-2
-    (λ c. search needs) loop2-holds (λ c. search needs) (λ c. search needs) (λ c. search needs) (λ c κs. search needs) (λ c. search needs)
-    (λ c. search needs) (λ c. search needs) loop2-again (λ c. search needs) (λ c. search needs) (λ c. search needs) (λ c κs. search needs)
-    loop-less-3 loop-again-3 (λ c. search needs) (λ c κs. search needs) (λ c κs. search needs) loop3-holds (λ c. search needs)
-    (λ c κs. search needs) (λ c κs. search needs) loop4-holds (λ c. search needs) (λ c. search needs) (λ c. search needs)
-    (λ c. search needs) loop4-again (λ c. search needs) (λ c. search needs) (λ c κs. search needs) sub-m loop5-holds (λ c. search needs)
-    (λ c. search needs) (λ c. search needs) (λ c. search needs) (λ c. search needs) (λ c. search needs) (λ c. search needs) loop5-again
-    sub-m-2 mul-last element-copy-out-last loop6-holds (λ c. search needs) (λ c. search needs) (λ c. search needs) (λ c. search needs)
+    (λ c κs. search needs) (λ c κs. search needs) loop-holds slice-aggregate-leave leave-requires same-length returns (λ c κs. search needs)
+    same-length-2 returns-2 (λ c κs. search needs) (λ c. search needs) (λ c κs. search needs) same-length-3 returns-3 sub-is-full
+    (λ c κs. search needs) same-length-4 returns-4 (λ c κs. search needs) (λ c κs. search needs) sub-plan-of (λ c κs. search needs)
+    (λ c. search needs) loop-less loop-again (λ c. search needs) same-length-5 returns-5 (λ c. search needs) mul-event
+    element-set-from-event mul-id element-set-from-id add-s (λ c κs. search needs) loop-less-2 loop-again-2 (λ c. search needs) loop2-holds
+    (λ c. search needs) (λ c. search needs) (λ c. search needs) (λ c κs. search needs) (λ c. search needs) (λ c. search needs)
+    (λ c. search needs) loop2-again (λ c. search needs) (λ c. search needs) (λ c. search needs) (λ c κs. search needs) loop-less-3
+    loop-again-3 (λ c. search needs) (λ c κs. search needs) (λ c κs. search needs) loop3-holds (λ c. search needs) (λ c κs. search needs)
+    (λ c κs. search needs) loop4-holds (λ c. search needs) (λ c. search needs) (λ c. search needs) (λ c. search needs) loop4-again
+    (λ c. search needs) (λ c. search needs) (λ c κs. search needs) sub-m loop5-holds (λ c. search needs) (λ c. search needs)
+    (λ c. search needs) (λ c. search needs) (λ c. search needs) (λ c. search needs) (λ c. search needs) loop5-again sub-m-2 mul-last
+    element-copy-out-last loop6-holds (λ c. search needs) (λ c. search needs) (λ c. search needs) (λ c. search needs) (λ c. search needs)
     (λ c. search needs) (λ c. search needs) (λ c. search needs) (λ c. search needs) (λ c. search needs) (λ c. search needs)
-    (λ c. search needs) (λ c. search needs) (λ c κs. search needs) mul-child element-copy-out-child (λ c κs. search needs)
-    (λ c. search needs) (λ c. search needs) loop6-less loop6-again (λ c. search needs) (λ c. search needs) (λ c. search needs)
-    (λ c. search needs) (λ c. search needs) (λ c. search needs) (λ c. search needs) loop3-less loop3-again loop3-less-2 loop3-again-2
-    loop7-holds (λ c κs. search needs) mul-event-4 element-copy-out-event mul-ended element-copy-out-ended sub-n mul-last-3
-    element-copy-out-last-2 mul-last-4 element-set-from-last-2 mul-id-3 element-copy-out-id mul-id-4 element-set-from-id-3
-    (λ c. search needs) (λ c. search needs) (λ c. search needs) loop7-less loop7-again loop7-less-2 loop7-again-2 add-i loop7-less-3
-    loop7-again-3 (λ c κs. search needs) (λ c κs. search needs) loop8-holds mul-event-5 element-copy-out-event-2 (λ c. search needs)
-    (λ c. search needs) part-mix-end (λ c κs. search needs) mul-s way-write-given-s mul-s-2 way-write-given-s-2 (λ c. search needs)
-    (λ c. search needs) loop8-again (λ c. search needs) (λ c. search needs) part-write-end (λ c κs. search needs) put-channels-requires
-    mul-at mul-at-2 add-at loop-less-4 loop-again-4 (λ c. search needs) (λ c κs. search needs) loop9-holds mul-x element-copy-out-x add-i-2
-    loop9-less loop9-again mul-event-6 element-copy-out-event-3 (λ c κs. search needs) mul-event-7 element-set-from-event-4 loop-less-5
-    loop-again-5 (λ c κs. search needs) loop10-holds mul-stored-3 element-copy-out-stored-3 add-j-3 loop10-less loop10-again mul-new
-    element-set-from-new loop-less-6 loop-again-6 mul-new-2 element-set-from-new-2 add-edits loop-less-7 loop-again-7 loop-less-8
-    loop-again-8 loop-less-9 loop-again-9 (λ c. search needs) (λ c κs. search needs) (λ c κs. search needs) loop-less-10 loop-again-10
-    (λ c. search needs) (λ c κs. search needs) (λ c κs. search needs) add-held loop11-holds element-copy-out-event-4 mul-event-8
-    element-copy-out-event-5 mul-event-9 element-copy-out-event-6 add-k-2 loop12-holds sub-p-2 mul-parent-3 element-copy-out-parent-2
-    (λ c κs. search needs) mul-parent-4 element-set-from-parent-2 loop12-less loop12-again mul-event-10 element-set-from-event-5 add-s-5
-    loop11-less loop11-again loop11-less-2 loop11-again-2 (λ c κs. search needs) loop13-holds mul-event-11 element-copy-out-event-7
-    (λ c κs. search needs) mul-event-12 element-set-from-event-6 add-k-3 loop13-less loop13-again (λ c κs. search needs) loop-less-11
-    loop-again-11 (λ c. search needs) (λ c κs. search needs) same-length-5 same-length-6 returns-3 loop-less-12 loop-again-12)
+    (λ c. search needs) (λ c κs. search needs) mul-child element-copy-out-child (λ c κs. search needs) (λ c. search needs)
+    (λ c. search needs) loop6-less loop6-again (λ c. search needs) (λ c. search needs) (λ c. search needs) (λ c. search needs)
+    (λ c. search needs) (λ c. search needs) (λ c. search needs) loop3-less loop3-again loop3-less-2 loop3-again-2 loop7-holds
+    (λ c κs. search needs) mul-event-4 element-copy-out-event mul-ended element-copy-out-ended sub-n mul-last-3 element-copy-out-last-2
+    mul-last-4 element-set-from-last-2 mul-id-3 element-copy-out-id mul-id-4 element-set-from-id-3 (λ c. search needs) (λ c. search needs)
+    (λ c. search needs) loop7-less loop7-again loop7-less-2 loop7-again-2 add-i loop7-less-3 loop7-again-3 (λ c κs. search needs)
+    (λ c κs. search needs) loop8-holds mul-event-5 element-copy-out-event-2 (λ c. search needs) (λ c. search needs) part-mix-end
+    (λ c κs. search needs) mul-s way-write-given-s mul-s-2 way-write-given-s-2 (λ c. search needs) (λ c. search needs) loop8-again
+    (λ c. search needs) (λ c. search needs) part-write-end slice-aggregate-write (λ c κs. search needs) loop-less-4 loop-again-4
+    (λ c. search needs) (λ c κs. search needs) loop9-holds mul-x element-copy-out-x add-i-2 loop9-less loop9-again mul-event-6
+    element-copy-out-event-3 (λ c κs. search needs) mul-event-7 element-set-from-event-4 loop-less-5 loop-again-5 (λ c κs. search needs)
+    loop10-holds mul-stored-3 element-copy-out-stored-3 add-j-3 loop10-less loop10-again mul-new element-set-from-new loop-less-6
+    loop-again-6 mul-new-2 element-set-from-new-2 add-edits loop-less-7 loop-again-7 loop-less-8 loop-again-8 loop-less-9 loop-again-9
+    (λ c. search needs) (λ c κs. search needs) (λ c κs. search needs) loop-less-10 loop-again-10 (λ c. search needs) (λ c κs. search needs)
+    (λ c κs. search needs) add-held loop11-holds element-copy-out-event-4 mul-event-8 element-copy-out-event-5 mul-event-9
+    element-copy-out-event-6 add-k-2 loop12-holds sub-p-2 mul-parent-3 element-copy-out-parent-2 (λ c κs. search needs) mul-parent-4
+    element-set-from-parent-2 loop12-less loop12-again mul-event-10 element-set-from-event-5 add-s-5 loop11-less loop11-again loop11-less-2
+    loop11-again-2 (λ c κs. search needs) loop13-holds mul-event-11 element-copy-out-event-7 (λ c κs. search needs) mul-event-12
+    element-set-from-event-6 add-k-3 loop13-less loop13-again (λ c κs. search needs) loop-less-11 loop-again-11 (λ c. search needs)
+    slice-aggregate-apply (λ c κs. search needs) loop-less-12 loop-again-12)

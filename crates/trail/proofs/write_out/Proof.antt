@@ -1,10 +1,10 @@
--- `trail::lines::write_out` is safe and ends. Assumes nothing.
+-- `trail::write_out` is safe and ends. Assumes nothing.
 use mathlib.Core.Path.{sym}
 use lib.Seq.{length-take-le}
 use native.Mathlib.Omega.{arith}
 use borrow.Author.Needs.{needs}
-use Rattle.trail.proofs.lines.write_out.Statement.{statement}
-use Rattle.trail.proofs.lines.write_out.Tie as tie
+use Rattle.trail.proofs.write_out.Statement.{statement}
+use Rattle.trail.proofs.write_out.Tie as tie
 
 slice-aggregate-write-all : tie.Need-slice-aggregate-write-all
 slice-aggregate-write-all c = sym (length-take-le _ _ (omega arith))
