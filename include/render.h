@@ -23,11 +23,11 @@ extern "C" {
  *
  * Layout: the ticks and blocks stand one behind the other. Of each, first all samples of the first channel, then all of
  * the second, and so on: frames are not interleaved, and a block of n frames of c channels takes 4 * n * c bytes
- * (examples/player.c interleaves them). `out` needs no alignment. The stack needs about 1 MB. */
+ * (examples/player.c interleaves them). `out` needs no alignment. The stack needs 512 KB. */
 size_t render(const uint8_t *tape, size_t tape_length, uint8_t *out, size_t out_length);
 
 /* The same with clips that read from the pool lent: `pool_length` samples, of any number, aligned as a float is. A clip's
- * places behind the pool's end are 0.0, as those behind the clip's end are. The stack needs about 1 MB. */
+ * places behind the pool's end are 0.0, as those behind the clip's end are. The stack needs 512 KB. */
 size_t render_with_pool(const uint8_t *tape, size_t tape_length, const float *pool, size_t pool_length, uint8_t *out,
                         size_t out_length);
 

@@ -17,7 +17,7 @@ const ENDS: usize = 24;
 const SHORT: usize = 2_048;
 
 /// The stack, in bytes, that docs/HANDBOOK.md states for the C entry.
-const STACK: usize = 1_024 << 10;
+const STACK: usize = 512 << 10;
 
 /// What the lent bytes hold before a call, so that those left alone show.
 const MARK: u8 = 0xA5;
