@@ -1,3 +1,1 @@
-pub mod Heard
-pub mod Follows
 pub mod Rolling

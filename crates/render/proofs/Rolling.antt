@@ -1,13 +1,13 @@
 -- A tape's records on the engine (crate player) are its records on the plain ledger: the engine follows the ledger from record to record. Assumes nothing.
-use mathlib.Core.Path.{_≡_, refl, sym, ap, _∙_, subst}
+use mathlib.Core.Path.{_≡_, refl, sym, ap, _∙_}
 use mathlib.Core.List.{List, [], _∷_, _++_}
 use mathlib.Core.Bool.{Bool, true, false, cond}
 use native.Mathlib.Omega.{arith}
 use borrow.Author.Tests.{eqb-true, ne-eqb}
 use mathlib.Core.Option.{none}
 use Prim.Native.Nat.{ℕ, zero, suc, _-_, _*_}
-use lib.ListN.{length, drop, replicate, length-replicate}
-use lib.Dec.{ltb, eqb, lit≤}
+use lib.ListN.{length, replicate, length-replicate}
+use lib.Dec.{ltb, eqb}
 use lib.Ieee.{Float}
 use Rattle.event.specs.declared.MixOrder.the-variants.{Forward}
 use Rattle.event.specs.declared.ReplayMode.the-variants.{All}
@@ -21,8 +21,8 @@ use Rattle.tape.specs.declared.reader.Call.{Call}
 use Rattle.tape.specs.declared.reader.Call.the-variants.{Create, Push, PushRelative, PushDuration, Edit, EditRelative, Tick, Process, Reset, SetSampleRate}
 use Rattle.tape.specs.declared.reader.Read.{Read}
 use Rattle.tape.specs.declared.reader.Read.the-variants.{Record, Refused, End}
-use Rattle.tape.specs.Tape.{readAt, recordOf, unknown, sizeOf, kindOf, plainKind, callOf}
-use Rattle.tape.specs.Fields.{Bytes, bytes-drop, field-below}
+use Rattle.tape.specs.Tape.{readAt}
+use Rattle.tape.specs.Fields.{Bytes}
 use Rattle.apply.specs.declared.Applied.{Applied}
 use Rattle.apply.specs.Applying.{appliedTo, appliedOut}
 use Rattle.player.specs.Bytes.{bytesOf, channelsOf}
@@ -36,47 +36,7 @@ use Rattle.ledger.specs.Steps.{Outcome, step}
 use Rattle.apply.specs.RecordCalls.{refusalOf}
 use Rattle.tape_extent.specs.Playing.{Played, heard, play}
 use Rattle.render.specs.Rendering.{afterRecord, afterRead, renderedFrom, renderedWith}
-use Rattle.render.proofs.Follows.{Follows, Followed, Readable, starts, follows}
-
--- ---- the call that was read has a number that the machine can hold
-
-readable-cond : (b : Bool) (x y : Call) → Readable x → Readable y → Readable (cond b x y)
-readable-cond true x y p q = p
-readable-cond false x y p q = q
-
-readable-call : (bs : List ℕ) → Bytes bs → Readable (callOf bs)
-unfolding callOf
-readable-call bs h =
-    let k = plainKind (kindOf bs) in
-    readable-cond (eqb k 0) _ _ (field-below 8 bs 3 8 h (lit≤ tt))
-    (readable-cond (eqb k 1) _ _ tt
-    (readable-cond (eqb k 2) _ _ tt
-    (readable-cond (eqb k 3) _ _ tt
-    (readable-cond (eqb k 4) _ _ tt
-    (readable-cond (eqb k 5) _ _ tt
-    (readable-cond (eqb k 6) _ _ tt
-    (readable-cond (eqb k 7) _ _ tt
-    (readable-cond (eqb k 8) _ _ tt tt))))))))
-
-abbrev ReadableRead : Read → Type 0
-ReadableRead (Record k call next) = Readable call
-ReadableRead (Refused k n) = Unit {0}
-ReadableRead End = Unit {0}
-
-readable-cond-read : (b : Bool) (x y : Read) → ReadableRead x → ReadableRead y → ReadableRead (cond b x y)
-readable-cond-read true x y p q = p
-readable-cond-read false x y p q = q
-
-readable-read : (t : List ℕ) (c : Cursor) → Bytes t → ReadableRead (readAt t c)
-unfolding readAt recordOf
-readable-read t c h =
-    let bs = drop (c .at) t in
-    readable-cond-read (ltb (c .at) (length t)) _ _
-    (readable-cond-read (unknown (c .first) bs) _ _ tt
-    (readable-cond-read (ltb (length bs) (sizeOf (kindOf bs))) _ _ tt (readable-call bs (bytes-drop (c .at) t h)))) tt
-
-pub readable : (t : List ℕ) (c : Cursor) (k : ℕ) (call : Call) (next : Cursor) → Bytes t → readAt t c ≡ Record k call next → Readable call
-readable t c k call next h e = subst ReadableRead e (readable-read t c h)
+use Rattle.render.specs.Follows.{Follows, Followed, Readable, starts, follows, readable}
 
 -- ---- a refused record has no samples
 

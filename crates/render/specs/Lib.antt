@@ -1,3 +1,5 @@
 pub mod Rendering
 pub mod Example
 pub mod Room
+pub mod Heard
+pub mod Follows

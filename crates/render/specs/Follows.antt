@@ -5,7 +5,7 @@ use mathlib.Core.Path.{_≡_, refl, sym, ap, _∙_, subst}
 use mathlib.Core.List.{List, [], _++_}
 use mathlib.Core.Option.{none}
 use native.Mathlib.Omega.{arith}
-use lib.Dec.{eqb}
+use lib.Dec.{ltb, eqb, lit≤}
 use lib.Ieee.{Float}
 use lib.ListN.{length, take, drop, length-append, length-take, length-drop, length-replicate}
 use lib.Seq.{length-take-le}
@@ -36,6 +36,11 @@ use Rattle.claim.specs.EngineCalls.{gives}
 use Rattle.claim.specs.Steps.{Keeps, keep-push, keep-edit, keep-tick, keep-block, keep-rate, keep-reset}
 use Rattle.tape.specs.declared.reader.Call.{Call}
 use Rattle.tape.specs.declared.reader.Call.the-variants.{Create, Push, PushRelative, PushDuration, Edit, EditRelative, Tick, Process, Reset, SetSampleRate}
+use Rattle.tape.specs.declared.reader.Cursor.{Cursor}
+use Rattle.tape.specs.declared.reader.Read.{Read}
+use Rattle.tape.specs.declared.reader.Read.the-variants.{Record, Refused as Unread, End}
+use Rattle.tape.specs.Tape.{readAt, recordOf, unknown, sizeOf, kindOf, plainKind, callOf}
+use Rattle.tape.specs.Fields.{Bytes, bytes-drop, field-below}
 use Rattle.tape.specs.declared.reader.PushRecord.{PushRecord}
 use Rattle.tape.specs.declared.reader.EditRecord.{EditRecord}
 use Rattle.apply.specs.declared.Applied.{Applied}
@@ -45,12 +50,16 @@ use Rattle.apply.specs.RecordCalls.{refusalOf, pushCall, editCall}
 use Rattle.tape_extent.specs.Playing.{Played, silent, heard, play}
 use Rattle.plans.specs.Sounding.{length-overlay}
 use Rattle.player.specs.Bytes.{channelsOf}
-use Rattle.render.proofs.Heard.{step-channels, create-few, channels-front, accepted-size, plays-tick, plays-block}
+use Rattle.render.specs.Heard.{step-channels, create-few, channels-front, accepted-size, plays-tick, plays-block}
 
 pub record Follows (s : Sequencer) (l : Ledger) : Type 0 where
   pub related : Related s l
   pub lawful : Lawful l
   pub few : l .channels ≤ 8
+
+-- no channel is left out of the 8
+pub outputs : (s : Sequencer) (l : Ledger) → Follows s l → Engine.channelsOf s ≡ l .channels
+outputs s l f = omega (arith, f .related .plain .4, f .few)
 
 -- the engine and the ledger before a tape's first record
 pub starts : Follows (created 1 All 1 .sequencer) (fresh 1 All 1)
@@ -194,10 +203,6 @@ length-blocked pool n s out = go (eqb (processRefusal n (length out) (s .outputs
     go false = refl
 
 module _ (pool : List Float) (s : Sequencer) (l : Ledger) (f : Follows s l) (out : List Float) (long : length out ≡ 512) where
-  -- no channel is left out of the 8
-  outputs : Engine.channelsOf s ≡ l .channels
-  outputs = omega (arith, f .related .plain .4, f .few)
-
   follows-tick : Followed (ticking pool s out) (tickingOut pool s out) (play pool l Tick)
   unfolding ticking tickingOut
   follows-tick =
@@ -208,7 +213,7 @@ module _ (pool : List Float) (s : Sequencer) (l : Ledger) (f : Follows s l) (out
       let size : m ≡ n = omega arith in
       let part : length lent ≡ m = length-take-le m out (omega arith) in
       let k = subst (λ (j : ℕ). Keeps (gives (ticks Forward pool j s) (tickOuts Forward pool s lent)) o) part (keep-tick s l Forward pool lent (f .lawful) (f .related)) in
-      let plays : heard n 1 1 o ≡ play pool l Tick = ap (λ (c : ℕ). heard c 1 1 o) outputs ∙ sym (plays-tick pool l lent (part ∙ size ∙ outputs)) in
+      let plays : heard n 1 1 o ≡ play pool l Tick = ap (λ (c : ℕ). heard c 1 1 o) (outputs s l f) ∙ sym (plays-tick pool l lent (part ∙ size ∙ outputs s l f)) in
       subst (λ (p : Played). Followed (ticking pool s out) (tickingOut pool s out) p) plays
       (sounds s l f out long (tick Forward pool lent) (ticks Forward pool m s) (tickOuts Forward pool s lent) k m n 1 1
       (length-ticked pool s lent ∙ part) (omega arith) (omega arith) (omega arith) (λ h. (omega arith, omega arith)))
@@ -223,7 +228,7 @@ module _ (pool : List Float) (s : Sequencer) (l : Ledger) (f : Follows s l) (out
       let size : m ≡ 64 * n = omega arith in
       let part : length lent ≡ m = length-take-le m out (omega arith) in
       let k = subst (λ (j : ℕ). Keeps (gives (blocks Forward pool e j s) (blockOuts Forward pool e s lent)) o) part (keep-block s l Forward e pool lent (f .lawful) (f .related)) in
-      let plays : heard n e 64 o ≡ play pool l (Process e) = ap (λ (c : ℕ). heard c e 64 o) outputs ∙ sym (plays-block pool l e lent (part ∙ size ∙ ap (λ (c : ℕ). 64 * c) outputs)) in
+      let plays : heard n e 64 o ≡ play pool l (Process e) = ap (λ (c : ℕ). heard c e 64 o) (outputs s l f) ∙ sym (plays-block pool l e lent (part ∙ size ∙ ap (λ (c : ℕ). 64 * c) (outputs s l f))) in
       subst (λ (p : Played). Followed (processing pool e s out) (processingOut pool e s out) p) plays
       (sounds s l f out long (block Forward e pool lent none) (blocks Forward pool e m s) (blockOuts Forward pool e s lent) k m n e 64
       (length-blocked pool e s lent ∙ part) (omega arith) (omega arith) (omega arith) (λ h. let b = accepted-size l e pool lent h in (b, b)))
@@ -243,3 +248,43 @@ follows pool s l Tick out h long f = follows-tick pool s l f out long
 follows pool s l (Process n) out h long f = follows-block pool s l f out long n
 follows pool s l Reset out h long f = quiet s l f out long reset (accepts (resets s)) [] (keep-reset s l (f .lawful) (f .related))
 follows pool s l (SetSampleRate r) out h long f = quiet s l f out long (rate r) (rates s r) [] (keep-rate s l r (f .lawful) (f .related))
+
+-- ---- the call that was read has a number that the machine can hold
+
+readable-cond : (b : Bool) (x y : Call) → Readable x → Readable y → Readable (cond b x y)
+readable-cond true x y p q = p
+readable-cond false x y p q = q
+
+readable-call : (bs : List ℕ) → Bytes bs → Readable (callOf bs)
+unfolding callOf
+readable-call bs h =
+    let k = plainKind (kindOf bs) in
+    readable-cond (eqb k 0) _ _ (field-below 8 bs 3 8 h (lit≤ tt))
+    (readable-cond (eqb k 1) _ _ tt
+    (readable-cond (eqb k 2) _ _ tt
+    (readable-cond (eqb k 3) _ _ tt
+    (readable-cond (eqb k 4) _ _ tt
+    (readable-cond (eqb k 5) _ _ tt
+    (readable-cond (eqb k 6) _ _ tt
+    (readable-cond (eqb k 7) _ _ tt
+    (readable-cond (eqb k 8) _ _ tt tt))))))))
+
+abbrev ReadableRead : Read → Type 0
+ReadableRead (Record k call next) = Readable call
+ReadableRead (Unread k n) = Unit {0}
+ReadableRead End = Unit {0}
+
+readable-cond-read : (b : Bool) (x y : Read) → ReadableRead x → ReadableRead y → ReadableRead (cond b x y)
+readable-cond-read true x y p q = p
+readable-cond-read false x y p q = q
+
+readable-read : (t : List ℕ) (c : Cursor) → Bytes t → ReadableRead (readAt t c)
+unfolding readAt recordOf
+readable-read t c h =
+    let bs = drop (c .at) t in
+    readable-cond-read (ltb (c .at) (length t)) _ _
+    (readable-cond-read (unknown (c .first) bs) _ _ tt
+    (readable-cond-read (ltb (length bs) (sizeOf (kindOf bs))) _ _ tt (readable-call bs (bytes-drop (c .at) t h)))) tt
+
+pub readable : (t : List ℕ) (c : Cursor) (k : ℕ) (call : Call) (next : Cursor) → Bytes t → readAt t c ≡ Record k call next → Readable call
+readable t c k call next h e = subst ReadableRead e (readable-read t c h)
