@@ -8,13 +8,14 @@ use borrow.Author.Tests.{lt-ltb, le-ltb}
 use lib.Dec.{ltb}
 use native.Mathlib.Omega.{arith}
 use lib.Ieee.{Float, nan, binary32, toBits}
-use lib.ListN.{length, getD, drop, length-append, drop-of-length-le}
+use lib.ListN.{length, getD, drop, drop-of-length-le}
 use lib.Seq.{sets, drop-cons, drop-drop, getD-drop}
 use Rattle.listing.specs.Pieces.{text, add}
 use Rattle.listing.specs.Putting.{Putting, begin, further, ended, same-long, left-is, place-is, put, putLength, put-front, put-none}
-use Rattle.little_endian.specs.Samples.{sampleBytes, bytesOf, length-sample, length-bytes, bytes-append, put-there}
+use Rattle.little_endian.specs.Samples.{sampleBytes, bytesOf, length-sample, bytes-append, put-there}
 use Rattle.peak.specs.Peaks.{magnitude, greatest}
 use Rattle.wav.specs.Frames.{frameAt, framesFrom, dataBytes}
+use Rattle.wav.specs.Interleaved.{frame-long, frames-long}
 
 -- room for n runs of s is room for one and for n - 1 behind it
 one-less : (n at s len : ℕ) → 0 < n → at + n * s ≤ len → at + s + (n - 1) * s ≤ len
@@ -22,11 +23,6 @@ one-less zero at s len h l = absurd (omega arith)
 one-less (suc n) at s len h l = let e : n ≡ suc n - 1 = omega arith in subst (λ (j : ℕ). at + s + j * s ≤ len) e (omega arith)
 
 -- ---- a frame
-pub length-frame : (c w : ℕ) (xs : List Float) (j : ℕ) → length (frameAt c w xs j) ≡ c
-unfolding frameAt
-length-frame zero w xs j = refl
-length-frame (suc c) w xs j = ap suc (length-frame c w (drop w xs) j)
-
 frame-step : (c w : ℕ) (xs : List Float) (j : ℕ) → 0 < c → bytesOf (frameAt c w xs j) ≡ sampleBytes (getD xs j nan) ++ bytesOf (frameAt (c - 1) w (drop w xs) j)
 unfolding frameAt bytesOf
 frame-step zero w xs j h = absurd (omega arith)
@@ -80,16 +76,6 @@ frames-step c n w xs j h =
     ap (λ (k : ℕ). bytesOf (framesFrom c k w xs j)) q
     ∙ bytes-append (frameAt c w xs j) (framesFrom c (n - (j + 1)) w xs (suc j))
     ∙ ap (λ (k : ℕ). bytesOf (frameAt c w xs j) ++ bytesOf (framesFrom c (n - (j + 1)) w xs k)) (sym p)
-
-frame-long : (c w : ℕ) (xs : List Float) (j : ℕ) → length (bytesOf (frameAt c w xs j)) ≡ 4 * c
-frame-long c w xs j = length-bytes (frameAt c w xs j) ∙ ap (λ (k : ℕ). 4 * k) (length-frame c w xs j)
-
-pub frames-long : (c n w : ℕ) (xs : List Float) (j : ℕ) → length (bytesOf (framesFrom c n w xs j)) ≡ 4 * (c * n)
-unfolding framesFrom bytesOf
-frames-long c zero w xs j = omega arith
-frames-long c (suc n) w xs j =
-    ap length (bytes-append (frameAt c w xs j) (framesFrom c n w xs (suc j)))
-    ∙ omega (arith, length-append (bytesOf (frameAt c w xs j)) (bytesOf (framesFrom c n w xs (suc j))), frame-long c w xs j, frames-long c n w xs (suc j))
 
 module _ (xs : List Float) (channels each stride : ℕ) (out₀ : List ℕ) where
   -- the frames from `place` on are still to be put from `at` on

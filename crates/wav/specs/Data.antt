@@ -6,7 +6,7 @@ use mathlib.Core.Bool.{true, cond}
 use Prim.Native.Nat.{ℕ, zero, suc}
 use lib.Dec.{eqb}
 use lib.Ieee.{Float}
-use lib.ListN.{length, take, drop}
+use lib.ListN.{length, drop}
 use Rattle.event.specs.declared.ReplayMode.the-variants.{All}
 use Rattle.ledger.specs.Ledger.{Ledger, fresh}
 use Rattle.little_endian.specs.Samples.{bytesOf}
@@ -56,11 +56,13 @@ unfoldable pub tapeData : (pool : List Float) → (tape : List ℕ) → List ℕ
 unfolding dataFrom fresh
 tapeData pool tape = dataFrom pool tape (length tape) (fresh 1 All 1) (record { at = 0; first = true })
 
--- ---- computed: document 01's example tape with two channels. The block's samples are 3F800000 and 00000000, the tick's is 00000000, in each channel.
-abbrev twoChannels : List ℕ
-twoChannels = 0x00 ∷ 0x02 ∷ drop 2 example
+-- ---- computed: document 01's example tape with three channels. The block's samples are 3F800000 and 00000000, the tick's is 00000000, in each channel.
+abbrev threeChannels : List ℕ
+threeChannels = 0x00 ∷ 0x03 ∷ drop 2 example
 
-pub two-channels-data : tapeData trailPool twoChannels ≡
-    0 ∷ 0 ∷ 0x80 ∷ 0x3F ∷ 0 ∷ 0 ∷ 0x80 ∷ 0x3F ∷ 0 ∷ 0 ∷ 0 ∷ 0 ∷ 0 ∷ 0 ∷ 0 ∷ 0 ∷ 0 ∷ 0 ∷ 0 ∷ 0 ∷ 0 ∷ 0 ∷ 0 ∷ 0 ∷ []
+pub three-channels : tapeData trailPool threeChannels ≡
+    0 ∷ 0 ∷ 0x80 ∷ 0x3F ∷ 0 ∷ 0 ∷ 0x80 ∷ 0x3F ∷ 0 ∷ 0 ∷ 0x80 ∷ 0x3F
+    ∷ 0 ∷ 0 ∷ 0 ∷ 0 ∷ 0 ∷ 0 ∷ 0 ∷ 0 ∷ 0 ∷ 0 ∷ 0 ∷ 0
+    ∷ 0 ∷ 0 ∷ 0 ∷ 0 ∷ 0 ∷ 0 ∷ 0 ∷ 0 ∷ 0 ∷ 0 ∷ 0 ∷ 0 ∷ []
 unfolding tapeData frameAt recordOf unknown pushKind sizeOf callOf pushOf sourceOf field fromLittleEndian
-two-channels-data = refl
+three-channels = refl

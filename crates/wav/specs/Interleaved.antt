@@ -1,4 +1,4 @@
--- What the data of a WAV is: by place, and from the samples channel after channel, as crate render writes them and the plain ledger gives them. Assumes nothing.
+-- What the data of a WAV is: by place, how long, and from the samples channel after channel, as crate render writes them and the plain ledger gives them. Assumes nothing.
 use mathlib.Core.Path.{_≡_, refl, sym, ap, _∙_}
 use mathlib.Core.Bool.{false}
 use mathlib.Core.List.{List, [], _∷_, _++_}
@@ -10,7 +10,7 @@ use lib.Ieee.{Float, nan, inf, fin}
 use lib.IntN.{pos}
 use lib.ListN.{length, getD, take, drop, length-append, length-drop, List·getD-append}
 use lib.Seq.{length-take-le, drop-at, getD-drop, getD-take}
-use Rattle.little_endian.specs.Samples.{bytesOf}
+use Rattle.little_endian.specs.Samples.{bytesOf, length-bytes, bytes-append}
 use Rattle.player.specs.Bytes.{channelsOf}
 use Rattle.wav.specs.Frames.{frameAt, framesFrom, dataBytes}
 
@@ -22,6 +22,22 @@ frame-place (suc c) w xs j zero h = let z : 0 * w + j ≡ j = omega arith in rw 
 frame-place (suc c) w xs j (suc k) h =
     let z : suc k * w + j ≡ w + (k * w + j) = omega arith in
     frame-place c w (drop w xs) j k (omega arith) ∙ getD-drop w xs (k * w + j) nan ∙ ap (λ (n : ℕ). getD xs n nan) (sym z)
+
+-- ---- how long it is: four bytes a sample
+pub length-frame : (c w : ℕ) (xs : List Float) (j : ℕ) → length (frameAt c w xs j) ≡ c
+unfolding frameAt
+length-frame zero w xs j = refl
+length-frame (suc c) w xs j = ap suc (length-frame c w (drop w xs) j)
+
+pub frame-long : (c w : ℕ) (xs : List Float) (j : ℕ) → length (bytesOf (frameAt c w xs j)) ≡ 4 * c
+frame-long c w xs j = length-bytes (frameAt c w xs j) ∙ ap (λ (k : ℕ). 4 * k) (length-frame c w xs j)
+
+pub frames-long : (c n w : ℕ) (xs : List Float) (j : ℕ) → length (bytesOf (framesFrom c n w xs j)) ≡ 4 * (c * n)
+unfolding framesFrom bytesOf
+frames-long c zero w xs j = omega arith
+frames-long c (suc n) w xs j =
+    ap length (bytes-append (frameAt c w xs j) (framesFrom c n w xs (suc j)))
+    ∙ omega (arith, length-append (bytesOf (frameAt c w xs j)) (bytesOf (framesFrom c n w xs (suc j))), frame-long c w xs j, frames-long c n w xs (suc j))
 
 -- ---- from the samples channel after channel
 module _ (n w : ℕ) (wide : n ≤ w) where

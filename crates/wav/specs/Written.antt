@@ -3,8 +3,10 @@ use mathlib.Core.Path.{_≡_, refl, sym, ap, _∙_}
 use mathlib.Core.List.{List, [], _++_}
 use mathlib.Core.Bool.{Bool, true, false, cond}
 use mathlib.Core.Option.{none}
-use Prim.Native.Nat.{ℕ, zero, suc, _*_}
+use Prim.Native.Nat.{ℕ, zero, suc, _*_, _≤_}
+use native.Mathlib.Nat.{mul-le-mul-right}
 use native.Mathlib.Omega.{arith}
+use borrow.Author.Tests.{le-ltb}
 use lib.Dec.{eqb}
 use lib.Ieee.{Float}
 use lib.ListN.{length, replicate, length-replicate}
@@ -35,7 +37,7 @@ use Rattle.tape_extent.specs.Playing.{Played, heard, play}
 use Rattle.wav.specs.Data as Data
 use Rattle.wav.specs.Data.{recordData, dataFrom, tapeData}
 use Rattle.wav.specs.Frames.{framesFrom, dataBytes}
-use Rattle.wav.specs.Interleaved.{interleaved}
+use Rattle.wav.specs.Interleaved.{frames-long, interleaved}
 
 -- the rest of what is written: from an engine and a cursor on, with the output that is lent to each record's call
 abbrev pub Rest : Type 0
@@ -126,6 +128,14 @@ module _ (pool : List Float) (s : Sequencer) (l : Ledger) (f : Follows s l) (out
       let p = play pool l call in
       interleaved (a .channels) (a .each) (a .stride) (appliedOut pool s call out) (p .samples) (w .stride) (omega (arith, w .within, w .long)) (w .samples)
       ∙ ap bytesOf (same-frames call (w .refusal) (p .samples))
+
+-- What is put down of a record takes at most 2,048 bytes, the room that `trail_wav` always has: `put_frames` leaves none of it out.
+pub room-enough : (a : Applied) (out : List Float) (p : Played) → Followed a out p → length (dataBytes (a .channels) (a .each) (a .stride) out) ≤ 2048
+unfolding dataBytes
+room-enough a out p w =
+    let few : a .channels * a .each ≤ 8 * a .each = mul-le-mul-right (a .each) (w .channels) in
+    rw (le-ltb (a .stride) (a .each) (w .stride), le-ltb (length out) (a .channels * a .stride) (omega (arith, w .within, w .long)))
+    (omega (arith, w .each, frames-long (a .channels) (a .each) (a .stride) out 0))
 
 -- ---- all records
 
