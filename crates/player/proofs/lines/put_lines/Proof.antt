@@ -40,8 +40,11 @@ add-from c = let g = next-given _ _ _ _ _ _ (c .before .before .before .before .
 
 loop-again : tie.Need-loop-again Inv-loop μ-loop
 loop-again c =
-    let f = fits-line _ _ _ _ _ _ (c .before .before .before .before .before .before .loop .inv) (c .before .before .before .before .before .loop-test .taken) in
-    turn _ _ _ _ _ _ (c .before .before .before .before .before .before .loop .inv) (c .before .before .before .before .before .loop-test .taken) _ (line-put (c .before .before .before .before .before .before .loop .out) (c .before .before .before .before .before .before .loop .to) _ f (c .before .before .samples-line .ensures .0)) _ (line-long (c .before .before .before .before .before .before .loop .out) (c .before .before .before .before .before .before .loop .to) _ f (c .before .before .samples-line .ensures .1))
+    let t = c .before .before .before .before .before in
+    let l = t .before .loop in
+    let line = c .before .before .samples-line .ensures in
+    let f = fits-line _ _ _ _ _ _ (l .inv) (t .loop-test .taken) in
+    turn _ _ _ _ _ _ (l .inv) (t .loop-test .taken) _ (line-put (l .out) (l .to) _ f (line .0)) _ (line-long (l .out) (l .to) _ f (line .1))
 
 same-length : tie.Need-same-length Inv-loop μ-loop
 same-length c = same-long (c .before .loop .inv .put)

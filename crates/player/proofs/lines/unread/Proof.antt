@@ -29,12 +29,17 @@ returns-2 c = unread-bytes _ _ _ _ (c .before .before .before .before .before .b
 
 returns-3 : tie.Need-returns-3
 returns-3 c =
-    let a = c .before .before .before .before .before .before .before .before .before .before .before .before .args in
-    let q : ltb (length (a .out .now) - a .at) 4716 ≡ false = ap (λ (f : Form). ltb (length (a .out .now) - a .at) (roomFor f [])) (sym (c .before .before .before .before .enum-told2 .given .1)) ∙ sym (c .before .before .before .before .before .before .before .is-full .ensures) ∙ c .before .before .before .before .before .before .if1 .left in
-    let m = ltb-false (length (a .out .now) - a .at) 4716 q in
+    let f = c .before .before .before .before in
+    let s = f .before .before in
+    let a = s .before .before .before .before .before .before .args in
+    let room = length (a .out .now) - a .at in
+    let told = f .enum-told2 .given .1 in
+    let fits = sym (s .before .is-full .ensures) ∙ s .if1 .left in
+    let q : ltb room 4716 ≡ false = ap (λ (g : Form). ltb room (roomFor g [])) (sym told) ∙ fits in
+    let m = ltb-false room 4716 q in
     let e = c .before .before .put-counts .ensures in
     let t = e .1 .1 in
-    unread-lines _ _ _ _ (c .before .before .before .before .before .before .before .before .before .before .before .before .pre) (c .before .before .before .before .before .before .before .before .before .r .given .1) (c .before .before .before .before .enum-told2 .given .1) (sym (c .before .before .before .before .before .before .before .is-full .ensures) ∙ c .before .before .before .before .before .before .if1 .left) (e .0) (e .1 .0) (omega arith)
+    unread-lines _ _ _ _ (s .before .before .before .before .before .before .pre) (s .before .before .before .r .given .1) told fits (e .0) (e .1 .0) (omega arith)
 
 returns-4 : tie.Need-returns-4
 returns-4 c = unread-record _ _ _ _ (c .before .before .before .pre) (c .enum-told3 .given .1)
