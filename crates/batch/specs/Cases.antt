@@ -3,7 +3,7 @@ use Prim.Native.Nat.{ℕ}
 use mathlib.Core.Bool.{true, false}
 use mathlib.Core.Path.{_≡_, refl}
 use mathlib.Core.List.{List, [], _∷_, _++_}
-use lib.Ieee.{Float, binary32, binary64, ofBits, lt, le}
+use lib.Ieee.{Float, binary32, binary64, ofBits}
 use lib.ListN.{length, take, drop, replicate}
 use Rattle.event.specs.declared.ReplayMode.the-variants.{All}
 use Rattle.event.specs.declared.Fade.the-variants.{Power}
@@ -13,7 +13,7 @@ use Rattle.ledger.specs.Calls.{Call, push, PushKind, absolute, relative, byDura
 use Rattle.apply.specs.RecordCalls.{refusalOf}
 use Rattle.ledger.specs.Ledger.{Ledger, create}
 use Rattle.ledger.specs.LedgerMeets.{pairOf}
-use Rattle.ledger.specs.Steps.{step}
+use Rattle.ledger.specs.Steps.{step, computes}
 use Rattle.tape.specs.Fields.{field, fromLittleEndian}
 use Rattle.tape.specs.Tape.{pushKind, unknownPush, sizeOf, sizes, pushOf, sourceOf}
 use Rattle.batch.specs.Records.{beyond, stopOf, callOf}
@@ -80,31 +80,31 @@ abbrev call : Ledger → Call → Ledger × Reply
 call l c = pairOf (step l c)
 
 unfoldable after : (count : ℕ) → (records : List ℕ) → Pushed Ledger
-unfolding pushRun step
+unfolding pushRun computes
 after n bs = pushRun call n bs (create 1 All 1 .ledger)
 
 -- "how many were laid and what ended it, 0 if nothing did"; records behind the count are not looked at
 two-laid : (after 2 (clip ++ (clip ++ (0xFF ∷ []))) .numbers ≡ 1 ∷ 2 ∷ []) × (after 2 (clip ++ (clip ++ (0xFF ∷ []))) .ended ≡ 0) × (after 0 (0xFF ∷ []) .ended ≡ 0)
-unfolding after stopOf pushKind unknownPush sizeOf sizes callOf pushOf sourceOf field fromLittleEndian ofBits lt le create
+unfolding after stopOf pushKind unknownPush sizeOf sizes callOf pushOf sourceOf field fromLittleEndian
 two-laid = (refl, refl, refl)
 
 -- "the first refused one ends it, earlier ones stand", whatever stands behind it
 refused-ends : (after 3 (clip ++ (tooLate ++ (0xFF ∷ []))) .numbers ≡ 1 ∷ []) × (after 3 (clip ++ (tooLate ++ (0xFF ∷ []))) .ended ≡ 4)
-unfolding after stopOf pushKind unknownPush sizeOf sizes callOf pushOf sourceOf field fromLittleEndian ofBits lt le create
+unfolding after stopOf pushKind unknownPush sizeOf sizes callOf pushOf sourceOf field fromLittleEndian
 refused-ends = (refl, refl)
 
 -- "The engine .. equal those of the single pushes": what is left behind, also where the run ends early
 left-behind : (after 2 (clip ++ clip) .state .next ≡ 3) × (length (after 2 (clip ++ clip) .state .waiting) ≡ 2) × (after 3 (clip ++ (tooLate ++ clip)) .state .next ≡ 2) × (after 2 clip .state .next ≡ 2)
-unfolding after stopOf pushKind unknownPush sizeOf sizes callOf pushOf sourceOf field fromLittleEndian ofBits lt le create
+unfolding after stopOf pushKind unknownPush sizeOf sizes callOf pushOf sourceOf field fromLittleEndian
 left-behind = (refl, refl, refl, refl)
 
 -- a record with gain bytes is longer: the next one begins behind them
 behind-gain : (after 2 (0x0A ∷ (drop 1 clip ++ (0 ∷ 0 ∷ 0x80 ∷ 0x3F ∷ clip))) .numbers ≡ 1 ∷ 2 ∷ []) × (after 2 (0x0A ∷ (drop 1 clip ++ (0 ∷ 0 ∷ 0x80 ∷ 0x3F ∷ []))) .ended ≡ 15)
-unfolding after stopOf pushKind unknownPush sizeOf sizes callOf pushOf sourceOf field fromLittleEndian ofBits lt le create
+unfolding after stopOf pushKind unknownPush sizeOf sizes callOf pushOf sourceOf field fromLittleEndian
 behind-gain = (refl, refl)
 
 missing-ends : (after 2 clip .numbers ≡ 1 ∷ []) × (after 2 clip .ended ≡ 15) × (after 2 (clip ++ (0x06 ∷ [])) .ended ≡ 14)
-unfolding after stopOf pushKind unknownPush sizeOf sizes callOf pushOf sourceOf field fromLittleEndian ofBits lt le create
+unfolding after stopOf pushKind unknownPush sizeOf sizes callOf pushOf sourceOf field fromLittleEndian
 missing-ends = (refl, refl, refl)
 
 -- ---- the whole call
@@ -121,7 +121,7 @@ sixteen = (refl, refl)
 
 -- "a run of push records with their count, reads no further"
 whole-call : (pushAll call (clip ++ (clip ++ clip)) 2 (replicate 32 9) (create 1 All 1 .ledger) .numbers ≡ 1 ∷ 2 ∷ []) × (pushAll call clip 2 (replicate 32 9) (create 1 All 1 .ledger) .ended ≡ 15)
-unfolding pushAll beyond step stopOf pushKind unknownPush sizeOf sizes callOf pushOf sourceOf field fromLittleEndian ofBits lt le create
+unfolding pushAll beyond computes stopOf pushKind unknownPush sizeOf sizes callOf pushOf sourceOf field fromLittleEndian
 whole-call = (refl, refl)
 
 -- "into a lent slice of 32, the rest of it left"

@@ -18,7 +18,7 @@ use Rattle.ledger.specs.Lists.{numbers}
 use Rattle.ledger.specs.Ledger.{Ledger, fresh}
 use Rattle.ledger.specs.Steps.{withLists}
 use Rattle.ledger.specs.CasesOfSlips.{endsOf}
-use Rattle.desk.specs.Desk.{Message, push, edit, reset, tick, block, rate, Call, front, back, Answer, number, queued, done, refused, Reply, Desk, opened, run}
+use Rattle.desk.specs.Desk.{Message, push, edit, reset, tick, block, rate, Call, front, back, Answer, number, queued, done, refused, Reply, Desk, opened, run, computes}
 use Rattle.desk.specs.CasesOfSlips.{held1, event, desk}
 
 -- a tick and a block of n samples of one channel, lent 0.5
@@ -63,20 +63,20 @@ storedEdit k end = record { id = record { 0 = k }; edit = record { «end_time» 
 
 -- a one-channel desk in mode None, and one in mode All, at rate 8 after a list of calls
 unfoldable pub inNone : List Call → Desk
-unfolding run fresh whole
+unfolding computes
 inNone cs = run (back (rate (whole 8)) ∷ cs) (opened (fresh 1 None 1)) .desk
 
 unfoldable pub inAll : List Call → Desk
-unfolding run fresh whole
+unfolding computes
 inAll cs = run (back (rate (whole 8)) ∷ cs) (opened (fresh 1 All 1)) .desk
 
 unfoldable pub replies : List Call → List Reply
-unfolding run fresh whole
+unfolding computes
 replies cs = run (back (rate (whole 8)) ∷ cs) (opened (fresh 1 None 1)) .replies
 
 -- the answers of a desk that is so far
 unfoldable pub answersFrom : Desk → List Call → List Answer
-unfolding run
+unfolding computes
 answersFrom d cs = answersOf (run cs d .replies)
 
 -- ---- the front
@@ -102,7 +102,7 @@ two-returned q = desk [] [] [] q (8 ∷ 9 ∷ [])
 pub front-empties-returns :
     (run (front held1 ∷ []) (two-returned []) .desk .returned ≡ []) × (run (front (ending 1 oneᶠ) ∷ []) (two-returned []) .desk .returned ≡ []) × (run (front reset ∷ []) (two-returned []) .desk .returned ≡ [])
     × (run (front (ending 1 nan) ∷ []) (two-returned []) .desk .returned ≡ 8 ∷ 9 ∷ [])
-unfolding run fresh
+unfolding computes
 front-empties-returns = (refl, refl, refl, refl)
 
 -- ---- draining
@@ -180,7 +180,7 @@ abbrev edits : (k : ℕ) → List StoredEdit
 edits k = replicate k (storedEdit 1 oneᶠ)
 
 unfoldable pub deskAt : (stored : ℕ) → (t : Float) → (queued : List Message) → Desk
-unfolding run fresh
+unfolding computes
 deskAt k t q = let l = run (back (rate oneᶠ) ∷ []) (opened (fresh 1 None 500)) .desk .back in record { back = withLists l [] (event zeroᶠ 7 ∷ []) [] (edits k) t -∞ []; queued = q; returned = 8 ∷ [] }
 
 -- "A refused call drains neither queue": a tick with no output, a block of 65, a rate of 0; what is lent is as lent.
@@ -189,7 +189,7 @@ pub refused-drains-nothing :
     let r : List Reply = run (back (tick Forward [] []) ∷ blockOf 65 ∷ back (rate zeroᶠ) ∷ []) d .replies in
     let e : Desk = run (back (tick Forward [] []) ∷ blockOf 65 ∷ back (rate zeroᶠ) ∷ []) d .desk in
     (r ≡ record { answer = refused 10; out = [] } ∷ record { answer = refused 11; out = replicate 64 halfᶠ } ∷ record { answer = refused 2; out = [] } ∷ []) × (e .queued ≡ held1 ∷ []) × (e .returned ≡ 8 ∷ []) × (e .back .clock ≡ zeroᶠ)
-unfolding run deskAt
+unfolding deskAt
 refused-drains-nothing = (refl, refl, refl, refl)
 
 -- "the clock for refusal 12 is read before draining": the queued reset would set it to 0.
@@ -206,17 +206,17 @@ front-refusals = refl
 -- Paper 5: "A gain that is not finite is refused as 18, directly after 5": behind 5, before 6 (256 held), before 13 (64 queued).
 pub front-refusal-18 : (answersFrom (desk (replicate 256 (event zeroᶠ 1)) [] [] [] []) (front (push relative zeroᶠ oneᶠ zeroᶠ zeroᶠ Smooth (Held nan) nan) ∷ front (atGain nan) ∷ front held1 ∷ []) ≡ refused 5 ∷ refused 18 ∷ refused 6 ∷ [])
     × (answersFrom (deskAt 0 zeroᶠ (replicate 64 reset)) (front (atGain +∞) ∷ front held1 ∷ []) ≡ refused 18 ∷ refused 13 ∷ [])
-unfolding answersFrom deskAt fresh
+unfolding answersFrom deskAt
 front-refusal-18 = (refl, refl)
 
 -- 6. "256 events are held in W, S and F (on the desk, with queued pushes)": queued edits and resets do not count.
 pub holds-with-queued : answersFrom (desk (replicate 250 (event zeroᶠ 1)) [] [] (ending 1 oneᶠ ∷ reset ∷ replicate 5 held1) []) (front held1 ∷ front held1 ∷ []) ≡ number 6 ∷ refused 6 ∷ []
-unfolding answersFrom fresh
+unfolding answersFrom
 holds-with-queued = refl
 
 -- 7. "Number 2^64 - 1 has been given": by a queued push too.
 pub last-number : answersFrom (opened (fresh 1 None (2 ^ 64 - 2))) (front held1 ∷ front held1 ∷ front held1 ∷ []) ≡ number (2 ^ 64 - 2) ∷ number (2 ^ 64 - 1) ∷ refused 7 ∷ []
-unfolding answersFrom fresh
+unfolding answersFrom
 last-number = refl
 
 -- 8, and 9: "on the desk instead, for any edit: stored plus queued edits are 256". Queued pushes do not count; event 7 sounds, and 1 has an edit.

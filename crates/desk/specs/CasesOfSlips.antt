@@ -16,7 +16,7 @@ use Rattle.ledger.specs.Calls.{absolute, absoluteEnd}
 use Rattle.ledger.specs.Ledger.{Ledger, held, fresh}
 use Rattle.ledger.specs.Numbers.{upFrom}
 use Rattle.ledger.specs.Steps.{withLists}
-use Rattle.desk.specs.Desk.{Message, push, edit, reset, tick, front, back, Desk, opened, sendFinished, restarted, deskRefusal, run}
+use Rattle.desk.specs.Desk.{Message, push, edit, reset, tick, front, back, Desk, opened, sendFinished, restarted, deskRefusal, run, computes}
 
 abbrev pub held1 : Message
 held1 = push absolute zeroᶠ oneᶠ zeroᶠ zeroᶠ Smooth (Held oneᶠ) oneᶠ
@@ -30,7 +30,7 @@ desk w s f q r = let l = fresh 1 None 1 in record { back = withLists l w s f (l 
 
 -- The queue is not handled flat: the push behind a queued reset is let go (case 8).
 unfoldable pub queuedReset : Desk
-unfolding run fresh
+unfolding computes
 queuedReset = run (front reset ∷ front held1 ∷ back (tick Forward [] (zeroᶠ ∷ [])) ∷ []) (opened (fresh 1 None 1)) .desk
 
 pub queue-is-not-flat : (held (queuedReset .back) ≡ 0) × (queuedReset .back .gone ≡ 1 ∷ [])
@@ -39,12 +39,12 @@ queue-is-not-flat = (refl, refl)
 
 -- A reset returns F from the end, W in order, S from the end.
 pub returned-in-order : restarted None (desk (event zeroᶠ 1 ∷ event oneᶠ 2 ∷ []) (event zeroᶠ 3 ∷ event zeroᶠ 4 ∷ []) (event zeroᶠ 5 ∷ event zeroᶠ 6 ∷ []) [] []) .returned ≡ 6 ∷ 5 ∷ 1 ∷ 2 ∷ 4 ∷ 3 ∷ []
-unfolding restarted fresh
+unfolding computes
 returned-in-order = refl
 
 -- What finds 64 in the return queue is lost, and counts as let go.
 unfoldable pub oneLost : Desk
-unfolding sendFinished fresh
+unfolding computes
 oneLost = sendFinished None (desk [] [] (event zeroᶠ 1 ∷ event zeroᶠ 2 ∷ []) [] (upFrom 100 63))
 
 pub lost-is-let-go : (oneLost .returned ≡ upFrom 100 63 ++ (2 ∷ [])) × (oneLost .back .gone ≡ 2 ∷ 1 ∷ [])
@@ -53,9 +53,9 @@ lost-is-let-go = (refl, refl)
 
 -- 6 counts queued pushes, and comes before 13; 9 counts queued edits, and comes before 13 too.
 pub held-and-queued : deskRefusal (desk (replicate 192 (event zeroᶠ 1)) [] [] (replicate 64 held1) []) (front held1) ≡ some 6
-unfolding deskRefusal fresh
+unfolding computes
 held-and-queued = refl
 
 pub full-queue : deskRefusal (desk (replicate 191 (event zeroᶠ 1)) [] [] (replicate 64 held1) []) (front held1) ≡ some 13
-unfolding deskRefusal fresh
+unfolding computes
 full-queue = refl

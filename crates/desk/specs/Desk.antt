@@ -5,7 +5,7 @@ use mathlib.Core.List.{List, [], _∷_, _++_, reverse}
 use mathlib.Core.Option.{Option, none, some}
 use lib.Dec.{leb}
 use lib.ListN.{length, take}
-use lib.Ieee.{Float, sub, lt}
+use lib.Ieee.{Float}
 use Rattle.event.specs.declared.Fade.{Fade}
 use Rattle.event.specs.declared.MixOrder.{MixOrder}
 use Rattle.event.specs.declared.Placings.{Placings}
@@ -18,6 +18,7 @@ use Rattle.ledger.specs.Calls.{PushKind, EditKind}
 use Rattle.ledger.specs.Lists.{numbers}
 use Rattle.ledger.specs.Ledger.{Ledger, held}
 use Rattle.ledger.specs.Refusals.{Check, refuses, firstOf, within, withinEnd, statedEnd, pushChecksAt, refusal}
+use Rattle.ledger.specs.Steps as Steps
 use Rattle.ledger.specs.Steps.{withLists, accept, restart, blockPlaces}
 
 -- ---- calls and answers
@@ -110,7 +111,6 @@ sendFinished None d =
 
 -- a reset acts: in mode None F goes back from the end, W in order, S from the end
 unfoldable pub restarted : ReplayMode → Desk → Desk
-unfolding restart
 restarted All d = withBack (restart (d .back) All) d
 restarted None d =
     let l = d .back in
@@ -122,7 +122,6 @@ abbrev pub resetOf : Desk → Desk
 resetOf d = restarted (d .back .mode) d
 
 unfoldable pub drain : List Message → Desk → Desk
-unfolding accept restarted
 drain [] d = d
 drain (push kind start end fade-in fade-out curve source gain ∷ q) d = drain q (withBack (accept (d .back) (Calls.push kind start end fade-in fade-out curve source gain) .ledger) d)
 drain (edit kind k end fade-out ∷ q) d = drain q (withBack (accept (d .back) (Calls.edit kind k end fade-out) .ledger) d)
@@ -139,7 +138,6 @@ full d = refuses 13 (leb 64 (length (d .queued)))
 
 -- 6 and 7 count queued pushes too; 9 counts queued edits, for any edit
 unfoldable pub frontChecks : Desk → Message → List Check
-unfolding within withinEnd statedEnd sub lt
 frontChecks d (push kind start end fade-in fade-out curve source gain) =
     pushChecksAt (held (d .back) + pushesIn (d .queued)) (nextNumber d) kind start end fade-in fade-out source gain ++ (full d ∷ [])
 frontChecks d (edit kind k end fade-out) =
@@ -150,7 +148,6 @@ frontChecks d reset = full d ∷ []
 
 -- a back call's refusals are the plain ledger's, before draining
 unfoldable pub deskRefusal : Desk → Call → Option ℕ
-unfolding frontChecks firstOf refusal
 deskRefusal d (front m) = firstOf (frontChecks d m)
 deskRefusal d (back c) = refusal (d .back) (backCall c)
 
@@ -174,7 +171,6 @@ sends d m = record {
 
 -- the back, once the messages are drained
 unfoldable pub acts : Desk → BackCall → Outcome
-unfolding accept sendFinished restarted
 acts d (tick order pool out) =
     let o = accept (d .back) (Calls.tick order pool out) in
     record { desk = sendFinished (d .back .mode) (withBack (o .ledger) d); reply = record { answer = done; out = o .reply .out } }
@@ -185,7 +181,6 @@ acts d (rate r) = record { desk = withBack (accept (d .back) (Calls.rate r) .led
 acts d reset = record { desk = resetOf d; reply = record { answer = done; out = [] } }
 
 unfoldable pub carriedOut : Desk → Call → Outcome
-unfolding sends drain acts
 carriedOut d (front m) = sends d m
 carriedOut d (back c) = acts (drained d) c
 
@@ -199,12 +194,10 @@ lentOut (back (rate r)) = []
 lentOut (back reset) = []
 
 unfoldable pub decide : Option ℕ → Desk → Call → Outcome
-unfolding carriedOut
 decide (some k) d c = record { desk = d; reply = record { answer = refused k; out = lentOut c } }
 decide none d c = carriedOut d c
 
 unfoldable pub step : Desk → Call → Outcome
-unfolding deskRefusal decide
 step d c = decide (deskRefusal d c) d c
 
 -- ---- any list of calls
@@ -214,9 +207,13 @@ pub record Run : Type 0 where
   pub replies : List Reply
 
 unfoldable pub run : List Call → Desk → Run
-unfolding step
 run [] d = record { desk = d; replies = [] }
 run (c ∷ cs) d =
     let a = step d c in
     let r = run cs (a .desk) in
     record { desk = r .desk; replies = a .reply ∷ r .replies }
+
+-- What a case that computes must unfold.
+unfoldable pub computes : Unit {0}
+unfolding Steps.computes sendFinished restarted drain frontChecks deskRefusal sends acts carriedOut decide step run
+computes = tt

@@ -293,7 +293,7 @@ finished-kept All d = same-ledger (d .back)
 finished-kept None d = record { channels = refl; mode = refl; rate = refl; duration = refl; clock = inl refl }
 
 pub restarted-kept : (m : ReplayMode) (d : Desk) → Kept (d .back) (restarted m d .back)
-unfolding restarted
+unfolding restarted restart
 restarted-kept All d = record { channels = refl; mode = refl; rate = refl; duration = refl; clock = inr refl }
 restarted-kept None d = record { channels = refl; mode = refl; rate = refl; duration = refl; clock = inr refl }
 
@@ -315,7 +315,7 @@ all-held l =
     omega (arith, eventSum-rewound (λ y n. 1) (everything l), eventSum-everything (λ y n. 1) l, eventSum-one (map rewound (everything l)), held-is l)
 
 restarted-fewer : (m : ReplayMode) (d : Desk) → Fewer d (restarted m d)
-unfolding restarted
+unfolding restarted restart
 restarted-fewer All d = record { events = omega (arith, all-held (d .back)); edits = omega arith; next = refl; queued = refl }
 restarted-fewer None d = record { events = omega arith; edits = omega arith; next = refl; queued = refl }
 

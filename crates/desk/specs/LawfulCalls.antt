@@ -7,11 +7,11 @@ use mathlib.Core.Option.{Option, none, some}
 use native.Mathlib.Omega.{arith}
 use lib.Dec.{T, leb, nleb→lt}
 use lib.ListN.{length, length-append}
-use lib.Ieee.{Float, lt, le, eq}
+use lib.Ieee.{Float, lt, le, eq, div}
 use Rattle.event.specs.declared.ReplayMode.{ReplayMode}
 use Rattle.floats.specs.Arithmetic.{_÷ᵈ_, _≤ᶠ_, _≈ᶠ_, oneᶠ, whole}
 use Rattle.ledger.specs.Calls as Calls
-use Rattle.ledger.specs.Ledger.{Ledger, held, create}
+use Rattle.ledger.specs.Ledger.{Ledger, held, create, fresh}
 use Rattle.ledger.specs.Refusals.{firstOf, refusal, checks}
 use Rattle.ledger.specs.Steps.{advance, setRate, accept}
 use Rattle.ledger.specs.Refused.{AllPass, all-pass}
@@ -42,7 +42,7 @@ unfolding le lt eq whole
 fresh-rate = (tt, tt)
 
 create-rate : (channels : ℕ) (mode : ReplayMode) (first : ℕ) → create channels mode first .ledger .rate ≡ whole 44_100
-unfolding create
+unfolding create whole fresh
 create-rate channels mode first = go (leb 1 channels && leb channels 8 && leb 1 first) refl
   where
     go : (b : Bool) → (leb 1 channels && leb channels 8 && leb 1 first) ≡ b → create channels mode first .ledger .rate ≡ whole 44_100
@@ -50,7 +50,7 @@ create-rate channels mode first = go (leb 1 channels && leb channels 8 && leb 1 
     go false h = rw (h, create) refl
 
 create-duration : (channels : ℕ) (mode : ReplayMode) (first : ℕ) → create channels mode first .ledger .duration ≡ oneᶠ ÷ᵈ whole 44_100
-unfolding create
+unfolding create div fresh
 create-duration channels mode first = go (leb 1 channels && leb channels 8 && leb 1 first) refl
   where
     go : (b : Bool) → (leb 1 channels && leb channels 8 && leb 1 first) ≡ b → create channels mode first .ledger .duration ≡ oneᶠ ÷ᵈ whole 44_100

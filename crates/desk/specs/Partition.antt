@@ -17,7 +17,7 @@ use Rattle.floats.specs.Arithmetic.{_<ᶠ_}
 use Rattle.ledger.specs.Lists.{numbers, has}
 use Rattle.ledger.specs.Ledger.{Ledger, held, create}
 use Rattle.ledger.specs.Refusals.{editEnd}
-use Rattle.ledger.specs.Steps.{change, accept, advance, setRate}
+use Rattle.ledger.specs.Steps.{change, accept, advance, setRate, restart}
 use Rattle.ledger.specs.Numbers as Numbers
 use Rattle.ledger.specs.Numbers.{among, times, upFrom}
 use Rattle.ledger.specs.Sums.{numberSum, numberSum-append, numberSum-numbers, numberSum-one, eventSum-one}
@@ -47,7 +47,7 @@ finished-queued All d = refl
 finished-queued None d = refl
 
 restarted-next : (m : ReplayMode) (d : Desk) → restarted m d .back .next ≡ d .back .next
-unfolding restarted
+unfolding restarted restart
 restarted-next All d = refl
 restarted-next None d = refl
 

@@ -13,7 +13,7 @@ use Rattle.event.specs.declared.ReplayMode.the-variants.{All}
 use Rattle.event.specs.declared.Source.the-variants.{Held}
 use Rattle.ledger.specs.Calls.{Call, push, tick, block, rate, absolute, Answer, rendered, Reply}
 use Rattle.ledger.specs.Ledger.{Ledger, fresh}
-use Rattle.ledger.specs.Steps.{run}
+use Rattle.ledger.specs.Steps.{run, computes}
 
 -- a decimal number with k digits behind the point, as an f64
 unfoldable pub decimal : (n k : ℕ) → Float
@@ -26,7 +26,7 @@ abbrev pub 512ths : ℕ → Float
 
 -- a one-channel ledger at rate 8 and clock 0
 unfoldable pub atRate8 : Ledger
-unfolding run fresh
+unfolding computes
 atRate8 = run (rate (whole 8) ∷ []) (fresh 1 All 1) .ledger
 
 -- a push of held 1.0 with smooth fades
@@ -64,5 +64,5 @@ bits l = map (toBits binary32) l
 
 -- the replies of a fresh one-channel ledger at rate r
 unfoldable pub repliesAt : (r : Float) → List Call → List Reply
-unfolding run fresh
+unfolding computes
 repliesAt r cs = run (rate r ∷ cs) (fresh 1 All 1) .replies

@@ -12,7 +12,7 @@ use Rattle.event.specs.declared.ReplayMode.the-variants.{All}
 use Rattle.event.specs.declared.Source.the-variants.{Held, Ramp}
 use Rattle.ledger.specs.Calls.{Call, push, edit, rate, absolute, absoluteEnd}
 use Rattle.ledger.specs.Ledger.{fresh}
-use Rattle.ledger.specs.Steps.{run, withLists}
+use Rattle.ledger.specs.Steps.{run, withLists, computes}
 use Rattle.ledger.specs.Cases.{held1, decimal, one-tick, blockOf, outsOf, lastOut, bits, repliesAt}
 
 -- the samples of n ticks after a push, and those of a block of n, at rate r
@@ -139,7 +139,7 @@ block-negative-fade = refl
 -- ---- "(start + fade-in) - start" and "end - (end - fade-out)" are not the fades where these are short beside the clock: 1,024 s at rate 2 ^ 19 (by 8,388,608 blocks of 64), fades of 3.53 and 2.73 samples, end 5 samples on. A block's step is by the fade itself.
 
 unfoldable pub late : List Call → List ℕ
-unfolding run fresh whole toBits
+unfolding computes toBits
 late cs =
     let l = run (rate (whole 524_288) ∷ []) (fresh 1 All 1) .ledger in
     bits (outsOf (run cs (withLists l [] [] [] [] (whole 1_024) -∞ []) .replies))

@@ -16,7 +16,7 @@ use Rattle.event.specs.declared.Source.{Source}
 use Rattle.event.specs.declared.Source.the-variants.{Held, Ramp, Clip}
 use Rattle.ledger.specs.Calls.{Call, PushKind, push, edit, tick, block, rate, reset, absolute, relative, byDuration, absoluteEnd, number, refused}
 use Rattle.ledger.specs.Ledger.{Ledger, fresh}
-use Rattle.ledger.specs.Steps.{run}
+use Rattle.ledger.specs.Steps.{run, computes}
 use Rattle.ledger.specs.Cases.{one-tick, blockOf, answersOf, lastOut, outsOf, bits}
 use Rattle.ledger.specs.CasesOfFades.{ticksAt, blockAt}
 use Rattle.ledger.specs.CasesOfLimits.{pushes}
@@ -104,5 +104,5 @@ unfolding answersTo whole
 refusal-18-behind-5 = refl
 
 pub refusal-18-before-6 : drop 256 (answersOf (run (pushes 257 ++ (at absolute +∞ ∷ [])) (fresh 1 All (2 ^ 64 - 256)) .replies)) ≡ refused 6 ∷ refused 18 ∷ []
-unfolding run fresh pushes
+unfolding computes pushes
 refusal-18-before-6 = refl

@@ -5,7 +5,7 @@ use mathlib.Core.List.{List, [], _∷_, _++_}
 use lib.ListN.{drop}
 use Rattle.floats.specs.Arithmetic.{zeroᶠ, oneᶠ, +∞, whole}
 use Rattle.ledger.specs.Calls.{Call, edit, absoluteEnd, Answer, number, stored, refused}
-use Rattle.ledger.specs.Steps.{run}
+use Rattle.ledger.specs.Steps.{run, computes}
 use Rattle.ledger.specs.Cases.{atRate8, held1, answersOf}
 
 -- n pushes that start at n - 1, .., 1, 0, and n edits of the numbers n, .., 2, 1
@@ -19,7 +19,7 @@ edits zero = []
 edits (suc n) = edit absoluteEnd (suc n) oneᶠ zeroᶠ ∷ edits n
 
 unfoldable pub lastAnswers : (from : ℕ) → List Call → List Answer
-unfolding run atRate8
+unfolding atRate8
 lastAnswers from cs = drop from (answersOf (run cs atRate8 .replies))
 
 pub holds-256 : lastAnswers 255 (pushes 257) ≡ number 256 ∷ refused 6 ∷ []

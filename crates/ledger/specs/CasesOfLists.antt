@@ -15,7 +15,7 @@ use Rattle.event.specs.declared.Source.the-variants.{Held, Ramp}
 use Rattle.ledger.specs.Calls.{Call, push, edit, rate, reset, absolute, relative, byDuration, absoluteEnd, relativeEnd, past, stored, done}
 use Rattle.ledger.specs.Lists.{numbers, placeOf}
 use Rattle.ledger.specs.Ledger.{Ledger, fresh}
-use Rattle.ledger.specs.Steps.{run}
+use Rattle.ledger.specs.Steps.{run, computes}
 use Rattle.ledger.specs.Cases.{held1, one-tick, blockOf, answersOf}
 use Rattle.ledger.specs.CasesOfSlips.{endsOf, valuesOf, ledgerOf, repliesOf}
 
@@ -43,7 +43,7 @@ storedEdit k end fade-out = record { id = record { 0 = k }; edit = record { «en
 
 -- a one-channel ledger in mode None at rate 8 after a list of calls
 unfoldable pub inNone : List Call → Ledger
-unfolding run fresh
+unfolding computes
 inNone cs = run (rate (whole 8) ∷ cs) (fresh 1 None 1) .ledger
 
 -- ---- creation
@@ -52,7 +52,7 @@ inNone cs = run (rate (whole 8) ∷ cs) (fresh 1 None 1) .ledger
 pub fresh-ledger :
     let l : Ledger = fresh 3 None 9 in
     (l .clock ≡ zeroᶠ) × (l .threshold ≡ -∞) × (l .rate ≡ fin false 11_025 (pos 2)) × (l .duration ≡ fin false 6_692_696_262_570_359 (negsuc 67)) × (l .next ≡ 9) × (l .channels ≡ 3) × (l .mode ≡ None)
-unfolding fresh
+unfolding computes
 fresh-ledger = (refl, refl, refl, refl, refl, refl, refl)
 
 -- ---- pushes

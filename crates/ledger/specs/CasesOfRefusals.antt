@@ -15,7 +15,7 @@ use Rattle.event.specs.declared.Source.{Source}
 use Rattle.event.specs.declared.Source.the-variants.{Held, Ramp, Clip}
 use Rattle.ledger.specs.Calls.{Call, PushKind, push, edit, tick, block, rate, absolute, relative, byDuration, absoluteEnd, relativeEnd, applied, past, stored, number, done, refused, Answer, Reply}
 use Rattle.ledger.specs.Ledger.{Ledger, fresh, create}
-use Rattle.ledger.specs.Steps.{run, withLists}
+use Rattle.ledger.specs.Steps.{run, withLists, computes}
 use Rattle.ledger.specs.Cases.{held1, one-tick, blockOf, answersOf, places}
 use Rattle.ledger.specs.CasesOfLimits.{pushes, edits}
 use Rattle.ledger.specs.CasesOfSlips.{ledgerOf, repliesOf}
@@ -45,14 +45,14 @@ abbrev creates : (channels first : ℕ) → Answer
 creates channels first = create channels None first .answer
 
 pub refusal-1 : creates 1 1 ∷ creates 8 1 ∷ creates 0 1 ∷ creates 9 1 ∷ creates 1 0 ∷ [] ≡ done ∷ done ∷ refused 1 ∷ refused 1 ∷ refused 1 ∷ []
-unfolding create
+unfolding computes
 refusal-1 = refl
 
 pub refused-creation :
     let l : Ledger = create 9 None 5 .ledger in
     let k : Ledger = create 8 None 5 .ledger in
     (l .channels ≡ 1) × (l .mode ≡ All) × (l .next ≡ 1) × (k .channels ≡ 8) × (k .mode ≡ None) × (k .next ≡ 5)
-unfolding create fresh
+unfolding computes
 refused-creation = (refl, refl, refl, refl, refl, refl)
 
 -- ---- 2. "A rate is not from 1 to 1,000,000": both ends pass, their neighbours do not.
@@ -99,12 +99,12 @@ unfolding pushes
 spread = rate oneᶠ ∷ held1 zeroᶠ zeroᶠ zeroᶠ zeroᶠ ∷ pushes 255 ++ (blockOf 64 ∷ held1 zeroᶠ oneᶠ zeroᶠ zeroᶠ ∷ [])
 
 pub refusal-6 : drop 258 (answersOf (run spread (fresh 1 All 1) .replies)) ≡ refused 6 ∷ []
-unfolding run fresh spread
+unfolding computes spread
 refusal-6 = refl
 
 -- ---- 7. "Number 2^64 - 1 has been given."
 pub refusal-7 : answersOf (run (replicate 2 (held1 zeroᶠ oneᶠ zeroᶠ zeroᶠ)) (fresh 1 All (2 ^ 64 - 1)) .replies) ≡ number (2 ^ 64 - 1) ∷ refused 7 ∷ []
-unfolding run fresh
+unfolding computes
 refusal-7 = refl
 
 -- Of 3 to 7 the first: one push that breaks 3, 4 and 5, one that breaks 4 and 5; with 256 held one that breaks 5; and when the last number is given too.
@@ -113,7 +113,7 @@ unfolding answersTo whole
 pushes-in-checking-order = refl
 
 pub full-in-checking-order : drop 256 (answersOf (run (pushes 257 ++ (playing (Held +∞) ∷ [])) (fresh 1 All (2 ^ 64 - 256)) .replies)) ≡ refused 6 ∷ refused 5 ∷ []
-unfolding run fresh pushes
+unfolding computes pushes
 full-in-checking-order = refl
 
 -- ---- 8. "An edit's end or fade breaks 3's limits": the end as given, for a relative edit too (t is 0.125).
@@ -127,7 +127,7 @@ refusal-8 = refl
 pub refusal-9 : drop 259 (answersOf (run (rate oneᶠ ∷ held1 zeroᶠ +∞ zeroᶠ zeroᶠ ∷ one-tick ∷ edits 256
     ++ (edit absoluteEnd 500 oneᶠ zeroᶠ ∷ edit absoluteEnd 300 zeroᶠ zeroᶠ ∷ edit relativeEnd 300 (neg oneᶠ) zeroᶠ ∷ edit relativeEnd 300 zeroᶠ zeroᶠ ∷ edit absoluteEnd 300 halfᶠ zeroᶠ ∷ edit absoluteEnd 300 nan zeroᶠ ∷ [])) (fresh 1 All 500) .replies))
     ≡ applied ∷ past ∷ past ∷ refused 9 ∷ refused 9 ∷ refused 8 ∷ []
-unfolding run fresh edits neg
+unfolding computes edits
 refusal-9 = refl
 
 -- ---- 10. "Output length is not channels (tick) or 64 × channels (block), or a block's scratch, where it is lent", is not 64 long (Paper 7). Two channels; the last two answers are those of too long a block with too short an output, and with a scratch of 64 × channels.
@@ -139,7 +139,7 @@ abbrev blockInto : (size length : ℕ) → Option (List Float) → Call
 blockInto size n scratch = block Forward size [] (replicate n halfᶠ) scratch
 
 unfoldable pub stereo : List Call → List Reply
-unfolding run fresh
+unfolding computes
 stereo cs = run cs (fresh 2 All 1) .replies
 
 pub refusal-10 : answersOf (stereo (tickInto 2 ∷ tickInto 1 ∷ tickInto 3 ∷ blockInto 1 128 none ∷ blockInto 1 127 none ∷ blockInto 1 64 none ∷ blockInto 1 129 none
@@ -155,7 +155,7 @@ refusal-11 = refl
 
 -- ---- 12. "The clock after the step would exceed 1,000,000,000": at rate 1 one sample before it. 10 and 11 come first.
 unfoldable pub oneBefore : List Call → List Answer
-unfolding run fresh whole
+unfolding computes
 oneBefore cs =
     let l = run (rate oneᶠ ∷ []) (fresh 1 All 1) .ledger in
     answersOf (run cs (withLists l [] [] [] [] (whole 999_999_999) -∞ []) .replies)

@@ -16,7 +16,7 @@ use Rattle.event.specs.declared.Source.{Source}
 use Rattle.event.specs.declared.Source.the-variants.{Held, Ramp, Clip}
 use Rattle.ledger.specs.Calls.{Call, push, tick, block, rate, absolute, Reply}
 use Rattle.ledger.specs.Ledger.{Ledger, fresh}
-use Rattle.ledger.specs.Steps.{run}
+use Rattle.ledger.specs.Steps.{run, computes}
 use Rattle.ledger.specs.Cases.{decimal, one-tick, blockOf, lastOut, places}
 use Rattle.ledger.specs.CasesOfSlips.{valuesOf, ledgerOf, repliesOf, atRate10}
 
@@ -74,7 +74,7 @@ lastReply (r ∷ (q ∷ l)) = lastReply (q ∷ l)
 
 -- "One value feeds all channels."
 pub tick-outputs : lastOut (run (clip-and-ramp ++ (tick Forward pool (lent 2) ∷ tick Forward pool (lent 2) ∷ [])) (fresh 2 All 1) .replies) ≡ fin false 7 (negsuc 1) ∷ fin false 7 (negsuc 1) ∷ []
-unfolding run fresh whole
+unfolding computes
 tick-outputs = refl
 
 -- "Each channel is 64 long; the first 8 × ceil(n/8) become +0.0, the rest remain .. the source gives z - s samples to a scratch from place 0 .. scratch k is added at s + k": 0.5, 0.75 + 1, 0 + 1.5.
@@ -86,7 +86,7 @@ abbrev run-given : List Float
 run-given = oneᶠ ∷ fin false 3 (negsuc 0) ∷ lent 62
 
 unfoldable pub blockReplies : (n : ℕ) → List Reply
-unfolding run fresh whole
+unfolding computes
 blockReplies n = run (clip-and-ramp ++ (block Forward n pool (lent 128) (some (lent 64)) ∷ [])) (fresh 2 All 1) .replies
 
 pub block-outputs : lastReply (blockReplies 3) ≡ some (record { answer = places 1 0 3; out = row ++ row; scratch = some run-given; filled = 2 })

@@ -12,7 +12,7 @@ use Rattle.event.specs.declared.Source.the-variants.{Ramp}
 use Rattle.ledger.specs.Calls.{Call, push, edit, rate, reset, absolute, absoluteEnd, relativeEnd, applied, past, stored, number, done, Reply}
 use Rattle.ledger.specs.Lists.{numbers}
 use Rattle.ledger.specs.Ledger.{Ledger}
-use Rattle.ledger.specs.Steps.{run}
+use Rattle.ledger.specs.Steps.{run, computes}
 use Rattle.ledger.specs.Cases.{atRate8, held1, decimal, 512ths, one-tick, blockOf, answersOf, lastOut, repliesAt}
 
 abbrev pub endsOf : List Event → List Float
@@ -26,11 +26,11 @@ valuesOf (e ∷ l) = e .unit .value ∷ valuesOf l
 
 -- the ledger, and its replies, after a list of calls
 unfoldable pub ledgerOf : List Call → Ledger
-unfolding run atRate8
+unfolding atRate8
 ledgerOf cs = run cs atRate8 .ledger
 
 unfoldable pub repliesOf : List Call → List Reply
-unfolding run atRate8
+unfolding atRate8
 repliesOf cs = run cs atRate8 .replies
 
 -- A block is not n ticks: the example tape's block of 2 leaves the clip, which ends at 0.125, sounding, and two ticks leave it finished. (Case 6 no longer tells the two apart: document 02, Paper 3.)

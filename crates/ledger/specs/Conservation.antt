@@ -101,7 +101,7 @@ module _ (u : ℕ → ℕ) where
   fourSum-restart l None = simp (numberSum-append, numberSum-numbers) (omega arith)
 
   pub accept-adds : (l : Ledger) (c : Call) → Adds l (accept l c)
-  unfolding accept
+  unfolding accept enter
   accept-adds l (push kind start end fade-in fade-out curve source gain) =
       omega (arith, heldSum-enter byNumber l (newEvent (pushedTime kind (l .clock) start) (pushedTime kind (l .clock) (statedEnd kind start end)) fade-in fade-out curve source gain (l .next)))
   accept-adds l (edit kind k end fade-out) =

@@ -13,7 +13,7 @@ use Rattle.event.specs.declared.ReplayMode.{ReplayMode}
 use Rattle.floats.specs.Arithmetic.{_<ᶠ_, _≤ᶠ_}
 use Rattle.ledger.specs.Calls.{Call}
 use Rattle.ledger.specs.Steps.{Outcome, step, run}
-use Rattle.ledger.specs.Ledger.{Ledger, held, create}
+use Rattle.ledger.specs.Ledger.{Ledger, held, create, fresh}
 use Rattle.ledger.specs.Sums.{eventSum, eventSum-one, numberSum, numberSum-one, weight-in, weightless}
 use Rattle.ledger.specs.Conservation.{fourSum, step-adds}
 use Rattle.ledger.specs.Numbers.{acceptedOf, accepted}
@@ -138,7 +138,7 @@ step-lawful l c w =
     (counts-step l (step l c) (λ u. step-adds u l c) (step-numbered l c) (counts-of l w))
 
 create-next : (channels : ℕ) (mode : ReplayMode) (first : ℕ) → first ≤ 2 ^ 64 → (0 < create channels mode first .ledger .next) × (create channels mode first .ledger .next ≤ 2 ^ 64)
-unfolding create
+unfolding create fresh
 create-next channels mode first p = go (leb 1 channels && leb channels 8 && leb 1 first) refl
   where
     last : (a b c : Bool) → (a && b && c) ≡ true → T c

@@ -32,7 +32,6 @@ held l = length (l .waiting) + (length (l .sounding) + length (l .finished))
 
 -- clock t = 0, threshold θ = -infinity, rate r = 44,100
 unfoldable pub fresh : (channels : ℕ) → ReplayMode → (first : ℕ) → Ledger
-unfolding div whole
 fresh channels mode first = record {
   waiting = [];
   sounding = [];
@@ -54,9 +53,13 @@ pub record Created : Type 0 where
 
 -- 1: channels are not 1 to 8, or the first number is 0. A refused creation hands back an empty one-channel engine, mode All, first number 1.
 unfoldable pub create : (channels : ℕ) → ReplayMode → (first : ℕ) → Created
-unfolding fresh
 create channels mode first =
     elim (leb 1 channels && leb channels 8 && leb 1 first) [
       | true ↦ record { ledger = fresh channels mode first; answer = done }
       | false ↦ record { ledger = fresh 1 All 1; answer = refused 1 }
     ]
+
+-- What a case that computes must unfold.
+unfoldable pub computes : Unit {0}
+unfolding div whole fresh create
+computes = tt

@@ -289,7 +289,7 @@ same-accept l (rate r) p h = refl
 same-accept l reset p h = refl
 
 step-at-one : (l : Ledger) (c : Call) → CallAtOne c → HeldAtOne l → HeldAtOne (Gained.step l c .ledger) × (Gained.step l c ≡ step l c)
-unfolding step decide Gained.step
+unfolding step decide Gained.step Gained.decide
 step-at-one l c p h = go (refusal l c)
   where
     go : (o : Option ℕ) → HeldAtOne (Gained.decide o l c .ledger) × (Gained.decide o l c ≡ decide o l c)

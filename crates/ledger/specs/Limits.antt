@@ -20,8 +20,8 @@ use Rattle.event.specs.declared.StoredEdit.{StoredEdit}
 use Rattle.ledger.specs.Calls.{Call, push, edit, tick, block, rate, reset}
 use Rattle.ledger.specs.Lists.{start, withEdit, editOf, dropEdit, storeEdit, has}
 use Rattle.ledger.specs.Refusals.{missing, checks, pushChecks, editChecks, refusal, tickEnd, blockEnd, statedEnd, editEnd}
-use Rattle.ledger.specs.Steps.{accept, decide, step, change, setRate, restart, everything, advance, pushedTime, spanOf, cleared}
-use Rattle.ledger.specs.Ledger.{Ledger, create, held}
+use Rattle.ledger.specs.Steps.{accept, decide, step, change, setRate, restart, everything, advance, pushedTime, spanOf, cleared, enter}
+use Rattle.ledger.specs.Ledger.{Ledger, create, held, fresh}
 use Rattle.ledger.specs.Sums.{eventSum-one, eventSum-rewound, eventSum-edit, eventSum-tick, eventSum-block}
 use Rattle.ledger.specs.Conservation.{heldSum, heldSum-enter, heldSum-advance, eventSum-stays, eventSum-everything}
 use Rattle.ledger.specs.Partition.{is}
@@ -154,7 +154,7 @@ restart-limits l All g = record { events = omega (arith, eventSum-rewound one (e
 restart-limits l None g = record { events = omega arith; edits = omega arith; once = λ k. omega arith; next = g .next }
 
 accept-limits : (l : Ledger) (c : Call) → AllPass (checks l c) → Limits l → Limits (accept l c .ledger)
-unfolding accept checks pushChecks editChecks
+unfolding accept checks pushChecks editChecks enter
 accept-limits l (push kind start end fade-in fade-out curve source gain) h g = record {
   events = omega (
     arith,
@@ -183,7 +183,7 @@ accept-limits l (rate r) h g = setRate-limits l r (eq (l .rate) r) g
 accept-limits l reset h g = restart-limits l (l .mode) g
 
 pub step-limits : (l : Ledger) (c : Call) → Limits l → Limits (step l c .ledger)
-unfolding step
+unfolding step decide refusal
 step-limits l c g = go (refusal l c) refl
   where
     go : (o : Option ℕ) → refusal l c ≡ o → Limits (decide o l c .ledger)
@@ -191,7 +191,7 @@ step-limits l c g = go (refusal l c) refl
     go none h = accept-limits l c (all-pass (checks l c) h) g
 
 pub create-limits : (channels : ℕ) (mode : ReplayMode) (first : ℕ) → create channels mode first .ledger .next ≤ 2 ^ 64 → Limits (create channels mode first .ledger)
-unfolding create
+unfolding create fresh
 create-limits channels mode first p = go (leb 1 channels && leb channels 8 && leb 1 first) refl
   where
     go : (b : Bool) → (leb 1 channels && leb channels 8 && leb 1 first) ≡ b → Limits (create channels mode first .ledger)

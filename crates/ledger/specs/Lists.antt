@@ -16,12 +16,10 @@ use Rattle.floats.specs.Sooner.{sooner}
 -- ---- W: by start, in IEEE 754's totalOrder, then by lower number
 
 unfoldable pub insert : Event → List Event → List Event
-unfolding sooner totalLess lt eq isNan negative
 insert e [] = e ∷ []
 insert e (f ∷ w) = cond (earlier e f) (e ∷ f ∷ w) (f ∷ insert e w)
 
 unfoldable pub insertAll : List Event → List Event → List Event
-unfolding insert
 insertAll [] w = w
 insertAll (e ∷ l) w = insertAll l (insert e w)
 
@@ -76,7 +74,6 @@ pub record Started : Type 0 where
   pub edits : List StoredEdit
 
 unfoldable pub start : (θ : Float) → (waiting sounding : List Event) → List StoredEdit → Started
-unfolding lt editOf dropEdit
 start θ [] s x = record { waiting = []; sounding = s; edits = x }
 start θ (e ∷ w) s x =
     elim (e .«start_time» <ᶠ θ) [
@@ -105,7 +102,6 @@ pub record Swept : Type 0 where
 
 -- S from place i on, of at most k events, where `limit` is t + 0.5 × d: what sounds, and what finishes, each in order. Which events finish does not depend on what is heard.
 unfoldable pub sweep : (k : ℕ) → (limit : Float) → List Event → Swept
-unfolding le
 sweep zero limit s = record { sounding = []; finished = [] }
 sweep (suc k) limit [] = record { sounding = []; finished = [] }
 sweep (suc k) limit (e ∷ s) =
@@ -113,3 +109,8 @@ sweep (suc k) limit (e ∷ s) =
       | true ↦ (let r = sweep k limit (lastFirst s) in record { sounding = r .sounding; finished = e ∷ r .finished })
       | false ↦ (let r = sweep k limit s in record { sounding = e ∷ r .sounding; finished = r .finished })
     ]
+
+-- What a case that computes must unfold.
+unfoldable pub computes : Unit {0}
+unfolding lt le eq isNan negative totalLess sooner insert insertAll editOf dropEdit storeEdit start sweep
+computes = tt

@@ -2,7 +2,7 @@
 use Prim.Native.Nat.{ℕ, zero, suc, _+_, _-_, _*_, _/_, _%_, _^_, compare}
 use mathlib.Core.Bool.{Bool, true, false, not, _&&_, Bool·beq, cond}
 use lib.Dec.{T, ltb}
-use lib.Ieee.{Float, nan, inf, fin, binary64, lt, le, eq, sum, round, units, odd, isNan, neg, low, emax, prec, size, nearest, up, down}
+use lib.Ieee.{Float, nan, inf, fin, binary64, lt, le, eq, sum, round, units, odd, isNan, neg, low, emax, prec, size, nearest, up, down, add}
 use lib.Ieee.Fits.{and-r}
 use Rattle.floats.specs.Arithmetic.{whole}
 use Rattle.ledger.specs.Calls.{PushKind, absolute, relative, byDuration}
@@ -52,7 +52,7 @@ unfolding within
 within-not-nan x h = le-not-nan x billion (and-r (le (neg billion) x) (le x billion) h)
 
 pub pushedTime-not-nan : (k : PushKind) (t x : Float) → T (not (isNan t)) → T (within x) → T (not (isNan (pushedTime k t x)))
-unfolding pushedTime within isNan
+unfolding pushedTime within isNan le neg whole add
 pushedTime-not-nan absolute t x h w = within-not-nan x w
 pushedTime-not-nan byDuration t x h w = within-not-nan x w
 pushedTime-not-nan relative t nan h w = absurd w

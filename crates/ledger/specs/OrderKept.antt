@@ -18,7 +18,7 @@ use Rattle.ledger.specs.Refusals.{checks, pushChecks, editChecks, refusa
 use Rattle.event.specs.Events.{newEvent, rewound}
 use Rattle.ledger.specs.Lists.{insertAll, has}
 use Rattle.ledger.specs.Steps.{enter, accept, decide, step, change, setRate, restart, everything, advance, pushedTime, spanOf, cleared}
-use Rattle.ledger.specs.Ledger.{Ledger, create}
+use Rattle.ledger.specs.Ledger.{Ledger, create, fresh}
 use Rattle.ledger.specs.Sums.{eventSum, eventSum-insert, eventSum-rewound, eventSum-edit, eventSum-tick, eventSum-block}
 use Rattle.ledger.specs.Conservation.{heldSum, heldSum-enter, heldSum-advance, eventSum-stays, eventSum-everything}
 use Rattle.ledger.specs.Sorted.{WeaklySorted, weaklySorted-insert, weaklySorted-insertAll, weaklySorted-rewound, one-if-no, early, nanStart, start-sorted, early-nothing}
@@ -133,7 +133,7 @@ accept-order l (rate r) h g = setRate-order l r (eq (l .rate) r) g
 accept-order l reset h g = restart-order l (l .mode) g
 
 pub step-order : (l : Ledger) (c : Call) → InOrder l → InOrder (step l c .ledger)
-unfolding step
+unfolding step decide refusal
 step-order l c g = go (refusal l c) refl
   where
     go : (o : Option ℕ) → refusal l c ≡ o → InOrder (decide o l c .ledger)
@@ -141,7 +141,7 @@ step-order l c g = go (refusal l c) refl
     go none h = accept-order l c (all-pass (checks l c) h) g
 
 pub create-order : (channels : ℕ) (mode : ReplayMode) (first : ℕ) → InOrder (create channels mode first .ledger)
-unfolding create le lt eq whole
+unfolding create le lt eq whole fresh
 create-order channels mode first = go (leb 1 channels && leb channels 8 && leb 1 first) refl
   where
     go : (b : Bool) → (leb 1 channels && leb channels 8 && leb 1 first) ≡ b → InOrder (create channels mode first .ledger)

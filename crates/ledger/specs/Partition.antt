@@ -13,9 +13,9 @@ use Rattle.event.specs.declared.ReplayMode.{ReplayMode}
 use Rattle.event.specs.declared.ReplayMode.the-variants.{All, None}
 use Rattle.floats.specs.Arithmetic.{_<ᶠ_}
 use Rattle.ledger.specs.Calls.{Call, push, edit, tick, block, rate, reset}
-use Rattle.ledger.specs.Steps.{Outcome, accept, decide, step, run, change, setRate, restart}
+use Rattle.ledger.specs.Steps.{Outcome, accept, decide, step, run, change, setRate, restart, enter, advance}
 use Rattle.ledger.specs.Refusals.{refusal, editEnd}
-use Rattle.ledger.specs.Ledger.{Ledger, held, create}
+use Rattle.ledger.specs.Ledger.{Ledger, held, create, fresh}
 use Rattle.ledger.specs.Lists.{has}
 use Rattle.ledger.specs.Sums.{numberSum, numberSum-append, numberSum-one, eventSum-one}
 use Rattle.ledger.specs.Conservation.{fourSum, refused-none, step-adds}
@@ -51,7 +51,7 @@ restart-next l All = refl
 restart-next l None = refl
 
 accept-numbered : (l : Ledger) (c : Call) → Numbered l (accept l c)
-unfolding accept
+unfolding accept enter advance
 accept-numbered l (push kind start end fade-in fade-out curve source gain) = issued refl refl
 accept-numbered l (edit kind k end fade-out) =
     change-numbered l k (record { «end_time» = editEnd kind (l .clock) end; «fade_out» = fade-out }) (has k (l .sounding)) (editEnd kind (l .clock) end <ᶠ l .threshold)
@@ -126,7 +126,7 @@ pub record Partition (first : ℕ) (l : Ledger) (answered : List ℕ) : Type 0 w
   pub in-order : answered ≡ upFrom first (length answered)
 
 pub create-empty : (u : ℕ → ℕ) (channels : ℕ) (mode : ReplayMode) (first : ℕ) → fourSum u (create channels mode first .ledger) ≡ 0
-unfolding create
+unfolding create fresh
 create-empty u channels mode first = go (leb 1 channels && leb channels 8 && leb 1 first) refl
   where
     go : (b : Bool) → (leb 1 channels && leb channels 8 && leb 1 first) ≡ b → fourSum u (create channels mode first .ledger) ≡ 0

@@ -29,7 +29,6 @@ firstOf (refuses k false ∷ l) = firstOf l
 
 -- within 1,000,000,000 in magnitude, and no NaN
 unfoldable pub within : Float → Bool
-unfolding le whole neg
 within x = neg (whole 1_000_000_000) ≤ᶠ x && x ≤ᶠ whole 1_000_000_000
 
 -- only an end or duration may be +infinity
@@ -39,7 +38,6 @@ isPlusInfinity (inf negative) = not negative
 isPlusInfinity (fin s m e) = false
 
 unfoldable pub withinEnd : Float → Bool
-unfolding within
 withinEnd x = within x || isPlusInfinity x
 
 abbrev pub finiteSource : Source → Bool
@@ -51,24 +49,20 @@ finiteSource (Clip offset length) = true
 
 -- the end that a push states: by duration, end = start + duration
 unfoldable pub statedEnd : PushKind → (start end : Float) → Float
-unfolding add
 statedEnd absolute start end = end
 statedEnd relative start end = end
 statedEnd byDuration start duration = start +ᵈ duration
 
 -- an edit's end: relative uses t + end
 unfoldable pub editEnd : EditKind → (t end : Float) → Float
-unfolding add
 editEnd absoluteEnd t end = end
 editEnd relativeEnd t end = t +ᵈ end
 
 -- e = t + d for a tick, t + d × n for a block
 unfoldable pub tickEnd : Ledger → Float
-unfolding add
 tickEnd l = l .clock +ᵈ l .duration
 
 unfoldable pub blockEnd : Ledger → (n : ℕ) → Float
-unfolding add mul whole
 blockEnd l n = l .clock +ᵈ l .duration ×ᵈ whole n
 
 abbrev pub missing : Option Edit → Bool
@@ -94,12 +88,10 @@ pushChecksAt held next kind start end fade-in fade-out source gain =
     ∷ refuses 7 (leb (2 ^ 64) next) ∷ []
 
 unfoldable pub pushChecks : Ledger → PushKind → (start end fade-in fade-out : Float) → Source → (gain : Float) → List Check
-unfolding withinEnd statedEnd sub lt
 pushChecks l kind start end fade-in fade-out source gain = pushChecksAt (held l) (l .next) kind start end fade-in fade-out source gain
 
 -- 8: an edit's end or fade breaks 3's limits. 9: it must be stored, its number has none, and 256 are stored.
 unfoldable pub editChecks : Ledger → EditKind → (number : ℕ) → (end fade-out : Float) → List Check
-unfolding withinEnd editEnd lt editOf
 editChecks l kind k end fade-out =
     refuses 8 (not (withinEnd end && within fade-out))
     ∷ refuses 9 (not (has k (l .sounding)) && not (editEnd kind (l .clock) end <ᶠ l .threshold)
@@ -108,7 +100,6 @@ editChecks l kind k end fade-out =
 -- 10: output length is not channels (tick) or 64 × channels (block), or a block's scratch, where it is lent, is not 64 long (document 02, Paper 7). 11: block size exceeds 64.
 -- 12: the clock after the step would exceed 1,000,000,000. 2: a rate is not from 1 to 1,000,000.
 unfoldable pub checks : Ledger → Call → List Check
-unfolding pushChecks editChecks tickEnd blockEnd le whole
 checks l (push kind start end fade-in fade-out curve source gain) = pushChecks l kind start end fade-in fade-out source gain
 checks l (edit kind k end fade-out) = editChecks l kind k end fade-out
 checks l (tick order pool out) =
@@ -122,5 +113,9 @@ checks l (rate r) = refuses 2 (not (oneᶠ ≤ᶠ r && r ≤ᶠ whole 1_000_000)
 checks l reset = []
 
 unfoldable pub refusal : Ledger → Call → Option ℕ
-unfolding firstOf checks
 refusal l c = firstOf (checks l c)
+
+-- What a case that computes must unfold.
+unfoldable pub computes : Unit {0}
+unfolding add sub mul lt le neg whole editOf firstOf within withinEnd statedEnd editEnd tickEnd blockEnd pushChecks editChecks checks refusal
+computes = tt

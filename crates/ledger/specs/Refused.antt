@@ -75,7 +75,7 @@ unchanged l (rate r) k = record { ledger = refl; out = refl; scratch = refl }
 unchanged l reset k = record { ledger = refl; out = refl; scratch = refl }
 
 pub refused-unchanged : (l : Ledger) (c : Call) (k : ℕ) → step l c .reply .answer ≡ refused k → Unchanged l c (step l c)
-unfolding step
+unfolding step decide
 refused-unchanged l c k h = go (refusal l c) h
   where
     go : (o : Option ℕ) → decide o l c .reply .answer ≡ refused k → Unchanged l c (decide o l c)

@@ -4,7 +4,7 @@ use mathlib.Core.Bool.{Bool, true, false}
 use mathlib.Core.List.{List, [], _∷_, _++_, map, reverse}
 use mathlib.Core.Option.{Option, none, some}
 use lib.ListN.{length, replicate}
-use lib.Ieee.{Float, add, sub, mul, div, lt, eq}
+use lib.Ieee.{Float}
 use Rattle.event.specs.declared.Event.{Event}
 use Rattle.event.specs.declared.Edit.{Edit}
 use Rattle.event.specs.declared.StoredEdit.{StoredEdit}
@@ -17,6 +17,7 @@ use Rattle.event.specs.Events.{newEvent, rewound}
 use Rattle.event.specs.Placings.{tally}
 use Rattle.floats.specs.Arithmetic.{_+ᵈ_, _-ᵈ_, _×ᵈ_, _÷ᵈ_, _<ᶠ_, _≈ᶠ_, zeroᶠ, oneᶠ, halfᶠ, -∞}
 use Rattle.ledger.specs.Calls.{Call, PushKind, absolute, relative, byDuration, push, edit, tick, block, rate, reset, Answer, number, applied, past, stored, done, rendered, refused, Reply}
+use Rattle.ledger.specs.Lists as Lists
 use Rattle.ledger.specs.Lists.{insert, insertAll, numbers, has, storeEdit, editIn, start, sweep}
 use Rattle.ledger.specs.TickSamples as Tick
 use Rattle.ledger.specs.TickSamples.{tickSum}
@@ -24,7 +25,9 @@ use Rattle.ledger.specs.BlockSamples as Block
 use Rattle.ledger.specs.BlockSamples.{Span, blockSum, overlay, overlayScratch}
 use Rattle.ledger.specs.Places as Places
 use Rattle.ledger.specs.Places.{placings}
+use Rattle.ledger.specs.Ledger as State
 use Rattle.ledger.specs.Ledger.{Ledger}
+use Rattle.ledger.specs.Refusals as Refusals
 use Rattle.ledger.specs.Refusals.{statedEnd, editEnd, tickEnd, blockEnd, refusal}
 
 pub record Outcome : Type 0 where
@@ -55,13 +58,11 @@ withLists l w s f x t θ g = record {
 -- ---- Push: start < θ appends to S without looking in E; otherwise into W. Relative adds t to start and end after the checks. The answer is the event's number.
 
 unfoldable pub pushedTime : PushKind → (t x : Float) → Float
-unfolding add
 pushedTime absolute t x = x
 pushedTime relative t x = x +ᵈ t
 pushedTime byDuration t x = x
 
 unfoldable pub enter : Ledger → Event → Ledger
-unfolding lt insert
 enter l e =
     let straight = e .«start_time» <ᶠ l .threshold in
     record {
@@ -82,7 +83,6 @@ enter l e =
 -- ---- Edit: in S, replace end and fade-out (applied). Else, if end < θ, nothing (past). Else store in E, replacing an earlier edit, even for an unknown number (stored).
 
 unfoldable pub change : Ledger → (number : ℕ) → Edit → (sounds over : Bool) → Outcome
-unfolding storeEdit
 change l k d true over = record { ledger = withLists l (l .waiting) (editIn k d (l .sounding)) (l .finished) (l .edits) (l .clock) (l .threshold) (l .gone); reply = answers applied }
 change l k d false true = record { ledger = l; reply = answers past }
 change l k d false false = record { ledger = withLists l (l .waiting) (l .sounding) (l .finished) (storeEdit k d (l .edits)) (l .clock) (l .threshold) (l .gone); reply = answers stored }
@@ -98,7 +98,6 @@ leaves All f = []
 leaves None f = numbers f
 
 unfoldable pub advance : Ledger → (e : Float) → Ledger
-unfolding start sweep add sub mul
 advance l e =
     let θ = e -ᵈ l .duration ×ᵈ halfᶠ in
     let w = start θ (l .waiting) (l .sounding) (l .edits) in
@@ -131,7 +130,6 @@ abbrev pub everything : Ledger → List Event
 everything l = insertAll (l .sounding) (insertAll (l .finished) (l .waiting))
 
 unfoldable pub setRate : Ledger → (r : Float) → (same : Bool) → Ledger
-unfolding insertAll div
 setRate l r true = l
 setRate l r false = record {
   waiting = everything l;
@@ -151,14 +149,12 @@ setRate l r false = record {
 -- ---- Reset: All sends everything to W and rewinds sources, E remaining. None appends the numbers of F, W and S to G and empties all four of W, S, F and E. Both: t = 0, θ = -infinity.
 
 unfoldable pub restart : Ledger → ReplayMode → Ledger
-unfolding insertAll
 restart l All = withLists l (map rewound (everything l)) [] [] (l .edits) zeroᶠ -∞ (l .gone)
 restart l None = withLists l [] [] [] [] zeroᶠ -∞ (l .gone ++ (numbers (l .finished) ++ (numbers (l .waiting) ++ numbers (l .sounding))))
 
 -- ---- a call that no refusal names
 
 unfoldable pub accept : Ledger → Call → Outcome
-unfolding statedEnd pushedTime editEnd tickEnd blockEnd enter change advance Tick.computes Block.computes Places.computes setRate restart eq
 accept l (push kind start end fade-in fade-out curve source gain) =
     let t = l .clock in
     record {
@@ -201,12 +197,10 @@ refusedReply k (rate r) = answers (refused k)
 refusedReply k reset = answers (refused k)
 
 unfoldable pub decide : Option ℕ → Ledger → Call → Outcome
-unfolding accept
 decide (some k) l c = record { ledger = l; reply = refusedReply k c }
 decide none l c = accept l c
 
 unfoldable pub step : Ledger → Call → Outcome
-unfolding refusal decide
 step l c = decide (refusal l c) l c
 
 -- ---- any list of calls
@@ -216,9 +210,13 @@ pub record Run : Type 0 where
   pub replies : List Reply
 
 unfoldable pub run : List Call → Ledger → Run
-unfolding step
 run [] l = record { ledger = l; replies = [] }
 run (c ∷ cs) l =
     let a = step l c in
     let r = run cs (a .ledger) in
     record { ledger = r .ledger; replies = a .reply ∷ r .replies }
+
+-- What a case that computes must unfold.
+unfoldable pub computes : Unit {0}
+unfolding Lists.computes Tick.computes Block.computes Places.computes State.computes Refusals.computes pushedTime enter change advance setRate restart accept decide step run
+computes = tt

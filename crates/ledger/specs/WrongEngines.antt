@@ -15,7 +15,7 @@ use Rattle.event.specs.declared.Source.the-variants.{Held}
 use Rattle.ledger.specs.Calls.{Call, push, edit, tick, block, rate, reset, absolute, number, done, refused, Reply}
 use Rattle.ledger.specs.Lists.{placeOf}
 use Rattle.ledger.specs.Ledger.{Ledger, create}
-use Rattle.ledger.specs.Steps.{refusedReply, withLists, step, run}
+use Rattle.ledger.specs.Steps.{refusedReply, withLists, step, run, computes}
 use Rattle.ledger.specs.Claim.{Counts, Engine, calls, Claim}
 use Rattle.ledger.specs.LedgerMeets.{viewOf, pairOf, engineOf}
 
@@ -59,7 +59,7 @@ abbrev full : Ledger → Call → Ledger × Reply
 full l c = elim (isPush c) [ true ↦ (l, refusedReply 6 c) | false ↦ pairOf (step l c) ]
 
 pub not-full : (b : Bool) → ¬ Claim (engineOf b full)
-unfolding calls run create
+unfolding calls computes
 not-full b d =
     let h : refused 6 ≡ number 1 = d 1 All 1 (clip ∷ []) (omega arith) (tt, tt) .replies .0 .answer in
     let z : _≡_ {A = ℕ} 0 1 = cc in omega arith
@@ -70,7 +70,7 @@ abbrev spent : Ledger → Call → Ledger × Reply
 spent l c = elim (isTickOrBlock c) [ true ↦ (l, refusedReply 12 c) | false ↦ pairOf (step l c) ]
 
 pub not-spent : (b : Bool) → ¬ Claim (engineOf b spent)
-unfolding calls run create
+unfolding calls computes
 not-spent b d =
     let h : refused 12 ≡ done = d 1 All 1 (one-tick ∷ []) (omega arith) (tt, tt) .replies .0 .answer in
     let z : _≡_ {A = ℕ} 0 1 = cc in omega arith
@@ -83,7 +83,7 @@ silent l c =
     (o .ledger, record { answer = o .reply .answer; out = replicate (length (o .reply .out)) zeroᶠ; scratch = o .reply .scratch; filled = o .reply .filled })
 
 pub not-silent : (b : Bool) → ¬ Claim (engineOf b silent)
-unfolding calls run create
+unfolding calls computes
 not-silent b d =
     let h : zeroᶠ ∷ [] ≡ oneᶠ ∷ [] = d 1 All 1 (clip ∷ one-tick ∷ []) (omega arith) (tt, (tt, tt)) .replies .1 .0 .out in
     let z : _≡_ {A = ℕ} 0 1 = cc in omega arith
@@ -105,12 +105,12 @@ infinities (inf s) = 1
 infinities (fin s m e) = 0
 
 pub not-at-rest : (b : Bool) → ¬ Claim (engineOf b (atRest true))
-unfolding calls run create
+unfolding calls computes
 not-at-rest b d =
     let z : _≡_ {A = ℕ} 1 0 = ap infinities (d 1 All 1 (one-tick ∷ []) (omega arith) (tt, tt) .state .threshold) in omega arith
 
 pub not-all-waiting : (b : Bool) → ¬ Claim (engineOf b (atRest false))
-unfolding calls run create
+unfolding calls computes
 not-all-waiting b d =
     let h : true ≡ false = d 1 All 1 (clip ∷ one-tick ∷ []) (omega arith) (tt, (tt, tt)) .on-time _ (List·Memᴰ·head refl) in
     let z : _≡_ {A = ℕ} 0 1 = cc in omega arith
@@ -140,7 +140,7 @@ repeating b = record {
 }
 
 first-sample : (b : Bool) → Claim (repeating b) → oneᶠ ≡ zeroᶠ
-unfolding calls run create whole
+unfolding calls computes
 first-sample true d = ap (λ l. getD l 0 nan) (d 1 All 1 (rate (whole 8) ∷ clip ∷ one-block true ∷ one-block true ∷ []) (omega arith)
     (tt, (tt, (refl, (refl, tt)))) .replies .1 .1 .1 .0 .out)
 first-sample false d = ap (λ l. getD l 0 nan) (d 1 All 1 (rate (whole 8) ∷ clip ∷ one-block false ∷ one-block false ∷ []) (omega arith)
@@ -177,7 +177,7 @@ inventing count b = record {
 }
 
 pub not-inventing : (count : ℕ) (b : Bool) → ¬ Claim (inventing count b)
-unfolding calls run create
+unfolding calls computes
 not-inventing count b d =
     let before : count ≡ 0 = ap (λ (c : Counts). c .gone) (d 1 None 1 [] (omega arith) tt .state .counts) in
     let after : count ≡ 1 = ap (λ (c : Counts). c .gone) (d 1 None 1 (clip ∷ reset ∷ []) (omega arith) (tt, (tt, tt)) .state .counts) in

@@ -19,7 +19,7 @@ use Rattle.event.specs.Placings.{noPlacings}
 use Rattle.ledger.specs.Calls.{Call, Answer, number, applied, past, stored, done, rendered, refused, Reply}
 use Rattle.ledger.specs.Lists.{editOf}
 use Rattle.ledger.specs.Ledger.{Ledger, create}
-use Rattle.ledger.specs.Steps.{run}
+use Rattle.ledger.specs.Steps.{run, computes}
 
 -- ---- what is lent has 0.25 in every place, so that it shows what is not written
 
@@ -184,7 +184,7 @@ sameEdits x (w ∷ m) = sameEdit (editOf (w .id) x) w && sameEdits x m
 -- ---- the test
 
 agrees : Trial → Bool
-unfolding create run sameReplies sameNumbers stateNumbers sameEdits
+unfolding computes sameReplies sameNumbers stateNumbers sameEdits
 agrees t =
     let new = create (t .channels) (t .mode) (t .first) in
     let r = run (callsOf (t .calls)) (new .ledger) in

@@ -65,7 +65,7 @@ step-channels l c = go (refusal l c)
     go none = accept-channels l c
 
 pub create-few : (channels : ℕ) (mode : ReplayMode) (first : ℕ) → create channels mode first .ledger .channels ≤ 8
-unfolding create
+unfolding create fresh
 create-few channels mode first = go (leb 1 channels) (leb channels 8) refl (leb 1 first)
   where
     made : Bool → Created

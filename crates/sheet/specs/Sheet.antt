@@ -16,7 +16,7 @@ use Rattle.floats.specs.Floats.{index}
 use Rattle.math.specs.Curves.{smooth}
 use Rattle.ledger.specs.Calls.{Call, tick, block, absolute, number, refused}
 use Rattle.ledger.specs.Ledger.{held, fresh}
-use Rattle.ledger.specs.Steps.{run}
+use Rattle.ledger.specs.Steps.{run, computes}
 use Rattle.ledger.specs.Cases.{decimal, 512ths, atRate8, held1, answersOf, lastOut}
 use Rattle.desk.specs.Desk as Desk
 use Rattle.desk.specs.Desk.{front, back, opened}
@@ -29,7 +29,7 @@ pub record Ticked : Type 0 where
   pub out : List Float
 
 unfoldable pub ticked : Call → Ticked
-unfolding run atRate8
+unfolding atRate8
 ticked c =
     let r = run (c ∷ tick Forward [] (zeroᶠ ∷ []) ∷ []) atRate8 in
     record { waiting = length (r .ledger .waiting); sounding = length (r .ledger .sounding); finished = length (r .ledger .finished); out = lastOut (r .replies) }
@@ -45,12 +45,12 @@ finishes-unheard = record { waiting = 0; sounding = 0; finished = 1; out = zero�
 
 -- the samples of a block of 16 after one push
 unfoldable pub block16 : Call → List Float
-unfolding run atRate8
+unfolding atRate8
 block16 c = take 16 (lastOut (run (c ∷ block Forward 16 [] (replicate 64 zeroᶠ) none ∷ []) atRate8 .replies))
 
 -- the desk in mode None after a queued reset, a queued push and a tick of the back
 unfoldable pub desk8 : Desk.Desk
-unfolding Desk.run fresh
+unfolding Desk.computes
 desk8 =
     Desk.run (
     back (Desk.rate (whole 8))
@@ -78,5 +78,5 @@ pub record Sheet : Type 0 where
   pub case8 : (held (desk8 .back) ≡ 0) × (desk8 .back .gone ≡ 1 ∷ []) × (desk8 .returned ≡ 1 ∷ [])
 
 pub sheet : Sheet
-unfolding smooth index neg ticked block16 decimal run atRate8 desk8
+unfolding smooth index neg ticked block16 decimal atRate8 desk8
 sheet = record { case1 = refl; case2 = refl; case3 = refl; case4 = refl; case5 = refl; case6 = refl; case7 = refl; case8 = (refl, refl, refl) }

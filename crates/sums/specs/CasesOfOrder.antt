@@ -20,7 +20,7 @@ use Rattle.ledger.specs.BlockSamples.{Span}
 use Rattle.ledger.specs.Calls.{Call, push, tick, block, absolute}
 use Rattle.ledger.specs.Cases.{lastOut}
 use Rattle.ledger.specs.Ledger.{fresh}
-use Rattle.ledger.specs.Steps.{run}
+use Rattle.ledger.specs.Steps.{run, computes}
 use Rattle.ledger.specs.TickSamples as Tick
 use Rattle.sums.specs.Cases.{least}
 use Rattle.sums.specs.Contributions.{All, unfadedTick, TickQualifies, unfadedAt, BlockQualifies, tickContributions, blockContributions}
@@ -89,7 +89,7 @@ levels [] = []
 levels (x ∷ l) = push absolute zeroᶠ oneᶠ zeroᶠ zeroᶠ Smooth (Held x) oneᶠ ∷ levels l
 
 unfoldable pub heard : MixOrder → List Float → List Float
-unfolding run fresh whole
+unfolding computes
 heard o l =
     lastOut (run (levels l ++ (tick o [] (zeroᶠ ∷ []) ∷ [])) (fresh 1 Mode.All 1) .replies)
     ++ take 1 (lastOut (run (levels l ++ (block o 1 [] (replicate 64 zeroᶠ) none ∷ [])) (fresh 1 Mode.All 1) .replies))

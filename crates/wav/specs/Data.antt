@@ -9,6 +9,7 @@ use lib.Ieee.{Float}
 use lib.ListN.{length, drop}
 use Rattle.event.specs.declared.ReplayMode.the-variants.{All}
 use Rattle.ledger.specs.Ledger.{Ledger, fresh}
+use Rattle.ledger.specs.Steps.{computes}
 use Rattle.little_endian.specs.Samples.{bytesOf}
 use Rattle.tape.specs.declared.reader.Call.{Call}
 use Rattle.tape.specs.declared.reader.Cursor.{Cursor}
@@ -64,5 +65,5 @@ pub three-channels : tapeData trailPool threeChannels ≡
     0 ∷ 0 ∷ 0x80 ∷ 0x3F ∷ 0 ∷ 0 ∷ 0x80 ∷ 0x3F ∷ 0 ∷ 0 ∷ 0x80 ∷ 0x3F
     ∷ 0 ∷ 0 ∷ 0 ∷ 0 ∷ 0 ∷ 0 ∷ 0 ∷ 0 ∷ 0 ∷ 0 ∷ 0 ∷ 0
     ∷ 0 ∷ 0 ∷ 0 ∷ 0 ∷ 0 ∷ 0 ∷ 0 ∷ 0 ∷ 0 ∷ 0 ∷ 0 ∷ 0 ∷ []
-unfolding tapeData frameAt recordOf unknown pushKind sizeOf callOf pushOf sourceOf field fromLittleEndian
+unfolding computes tapeData frameAt recordOf unknown pushKind sizeOf callOf pushOf sourceOf field fromLittleEndian
 three-channels = refl
