@@ -1,2 +1,7 @@
 pub mod Trials
-pub mod RandomLists
+pub mod RustLists1
+pub mod RustLists2
+pub mod RustLists3
+pub mod RustLists4
+pub mod ListsWithGains
+pub mod ListsWithMarks

@@ -1,4 +1,4 @@
--- A trial is a list of calls with what the Rust sequencer answers, writes and holds after it. `agrees` tests that the ledger has the same, by bits; `specs.RandomLists` has the trials.
+-- A trial is a list of calls with what the Rust sequencer answers, writes and holds after it. `agrees` tests that the ledger has the same, by bits; the trials stand in `specs.RustLists1` to `RustLists4`, and in `specs.ListsWithGains` and `specs.ListsWithMarks`.
 use Prim.Native.Nat.{ℕ, zero, suc, _+_}
 use mathlib.Core.Bool.{Bool, true, false, not, _&&_}
 use mathlib.Core.List.{List, [], _∷_, _++_}
@@ -20,6 +20,10 @@ use Rattle.ledger.specs.Calls.{Call, Answer, number, applied, past, stored, don
 use Rattle.ledger.specs.Lists.{editOf}
 use Rattle.ledger.specs.Ledger.{Ledger, create}
 use Rattle.ledger.specs.Steps.{run, computes}
+
+-- the pool that every list's clips play from
+abbrev pub pool : List Float
+pool = (fin false 1 (negsuc 0)) ∷ (fin true 3 (negsuc 1)) ∷ (fin false 3 (negsuc 0)) ∷ (fin false 13421773 (negsuc 26)) ∷ (fin true 1 (pos 1)) ∷ (fin false 5033165 (negsuc 23)) ∷ (fin false 1 (pos 0)) ∷ []
 
 -- ---- what is lent has 0.25 in every place, so that it shows what is not written
 
