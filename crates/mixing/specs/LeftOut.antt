@@ -10,8 +10,15 @@ use Rattle.floats.specs.Floats.{narrowed}
 use Rattle.floats.specs.Phases.{not-below-one, not-above-zero}
 use Rattle.math.specs.Curves.{delerped}
 use Rattle.event.specs.declared.Event.{Event}
+use Rattle.event.specs.declared.Fade.{Fade}
 use Rattle.event.specs.Fades.{curve}
 use Rattle.ledger.specs.TickSamples.{fadedIn, fadedOut}
+
+-- a sample with a fade from `bottom` to `top`: a rising one acts where its phase is below 1, a falling one where it is above 0
+abbrev pub tickFaded : (bottom top : Float) → Fade → (rising : Bool) → (t x : Float) → Float
+tickFaded bottom top ease rising t x =
+    let phase = narrowed (delerped bottom top t) in
+    cond rising (cond (phase <ᶠ oneᶠ) (x ×ˢ curve ease phase) x) (cond (zeroᶠ <ᶠ phase) (x ×ˢ curve ease (oneᶠ -ˢ phase)) x)
 
 neither : (b : Bool) (y x : Float) → cond (b && false) y x ≡ x
 neither true y x = refl

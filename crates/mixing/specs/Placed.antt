@@ -1,10 +1,11 @@
--- What the code gives for a place: its number and how it came, both the ledger's; and an event after a block with its places counted. Assumes nothing.
+-- What the code gives for a place: its number and how it came, both the ledger's; and an event's source after a block with its places counted. Assumes nothing.
 use Prim.Native.Nat.{ℕ, _-_, min, max}
-use mathlib.Core.Bool.{Bool, _&&_, cond}
+use mathlib.Core.Bool.{Bool, true, false, _&&_, cond}
+use mathlib.Core.Path.{_≡_, refl}
 use mathlib.Core.List.{_++_}
 use lib.Dec.{ltb, leb}
 use lib.Ieee.{Float}
-use Rattle.floats.specs.Arithmetic.{_+ᵈ_, _-ᵈ_, _<ᶠ_, zeroᶠ}
+use Rattle.floats.specs.Arithmetic.{_+ᵈ_, _-ᵈ_, _<ᶠ_, _≤ᶠ_, zeroᶠ}
 use Rattle.floats.specs.declared.SampleIndex.{SampleIndex}
 use Rattle.floats.specs.Floats.{index}
 use Rattle.floats.specs.IndexStep.{isFree}
@@ -12,6 +13,7 @@ use Rattle.event.specs.declared.Event.{Event}
 use Rattle.event.specs.declared.Placing.{Placing}
 use Rattle.event.specs.declared.Placing.the-variants.{Kept, Forced}
 use Rattle.event.specs.declared.Placings.{Placings}
+use Rattle.event.specs.declared.Unit.{Unit}
 use Rattle.event.specs.Events.{withUnit}
 use Rattle.event.specs.Placings.{addAll}
 use Rattle.event.specs.Sources.{advancedBy}
@@ -48,9 +50,22 @@ fadesIn b e = zeroᶠ <ᶠ e .«fade_in» && b .clock <ᶠ (e .«start_time» +�
 abbrev pub fadesOut : Span → Event → Bool
 fadesOut b e = zeroᶠ <ᶠ e .«fade_out» && (e .«end_time» -ᵈ e .«fade_out») <ᶠ b .upto
 
+-- whether an event sounds in all places of the block, which has some
+abbrev pub goesThrough : Span → Event → Bool
+goesThrough b e = ltb 0 (b .size) && (e .«start_time» ≤ᶠ b .clock && b .upto ≤ᶠ e .«end_time»)
+
 -- where z > s: the source has moved on by z - s, and the fades' places are counted
 abbrev pub runProcessed : Span → (s z : ℕ) → Event → Placings → Processed
-runProcessed b s z e c = record { event = withUnit (advancedBy (e .unit) (z - s)) e; places = addAll c (fadeInPlacings b e ++ fadeOutPlacings b s e) }
+runProcessed b s z e c = record { unit = advancedBy (e .unit) (z - s); places = addAll c (fadeInPlacings b e ++ fadeOutPlacings b s e) }
 
 abbrev pub processed : Span → Event → Placings → Processed
-processed b e c = record { event = afterBlock b e; places = addAll c (eventPlacings b e) }
+processed b e c = record { unit = afterBlock b e .unit; places = addAll c (eventPlacings b e) }
+
+-- an event after a block is the event with another source
+changed : (t : Bool) (u : Unit) (e : Event) → withUnit (cond t (withUnit u e) e .unit) e ≡ cond t (withUnit u e) e
+changed true u e = refl
+changed false u e = refl
+
+pub unit-changes : (b : Span) (e : Event) → withUnit (afterBlock b e .unit) e ≡ afterBlock b e
+unfolding afterBlock
+unit-changes b e = changed (ltb (firstPlace b e) (endPlace b e)) (advancedBy (e .unit) (endPlace b e - firstPlace b e)) e

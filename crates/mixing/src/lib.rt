@@ -7,13 +7,17 @@ ghost use lib.ListN.{length};
 ghost use Rattle.floats.specs.Arithmetic.{_<ᶠ_, _≤ᶠ_};
 ghost use Rattle.event.specs.Placings.{addAll};
 ghost use Rattle.ledger.specs.TickSamples.{fadedIn, fadedOut, tickSample, afterTick};
-ghost use Rattle.ledger.specs.BlockSamples.{phaseAt, phaseStep, runFadedIn, runFadedOut, fadedRun, addAt, channelAfter};
+ghost use Rattle.event.specs.Sources.{nextSamples, advancedBy};
+ghost use Rattle.ledger.specs.BlockSamples.{phaseAt, phaseStep, runFadedIn, runFadedOut, gained, fadedRun, addAt, channelAfter, afterBlock};
 ghost use Rattle.ledger.specs.Places.{fadeInPlacings, fadeOutPlacings};
 ghost use Rattle.mixing.specs.Blocks.{asSpan, clearedPlaces};
-ghost use Rattle.mixing.specs.Placed.{placingOf, roundedPlace, raisedPlace, firstOf, endOf, fadeInOf, fadeOutOf, fadesIn, fadesOut, runProcessed, processed};
+ghost use Rattle.mixing.specs.LeftOut.{tickFaded};
+ghost use Rattle.mixing.specs.Placed.{placingOf, roundedPlace, raisedPlace, firstOf, endOf, fadeInOf, fadeOutOf, fadesIn, fadesOut, goesThrough, runProcessed, processed};
 use event::Event;
+use event::Fade;
 use event::Placing;
 use event::Placings;
+use event::Unit;
 use floats::Clamp;
 use floats::SampleIndex;
 use runs::least;
@@ -41,6 +45,23 @@ fn is_ahead(a: f64, b: f64, x: f64) -> bool
     false
 }
 
+// A sample x with a fade from `bottom` to `top`: a fade-in where its phase is below 1, a fade-out where it is above 0.
+fn tick_fade(bottom: f64, top: f64, ease: Fade, rising: bool, time: f64, x: f32) -> f32
+    ensures { λ r. ⌜ r ≡ tickFaded «bottom» «top» ease rising time x ⌝ }
+{
+    let phase = floats::narrow(math::delerp(bottom, top, time));
+    if rising {
+        if phase < 1.0 {
+            return x * ease.at(phase);
+        }
+        return x;
+    }
+    if phase > 0.0 {
+        return x * ease.at(1.0 - phase);
+    }
+    x
+}
+
 // A sample x with the fade-in. One that is over is left out before its phase is computed.
 fn tick_fade_in(event: Event, time: f64, x: f32) -> f32
     ensures { λ r. ⌜ r ≡ fadedIn time event x ⌝ }
@@ -50,12 +71,8 @@ fn tick_fade_in(event: Event, time: f64, x: f32) -> f32
         if is_past(event.start_time, top, time) {
             return x;
         }
-        let phase = floats::narrow(math::delerp(event.start_time, top, time));
-        if phase < 1.0 {
-            let ease = event.fade_ease;
-            return x * ease.at(phase);
-        }
-        return x;
+        let ease = event.fade_ease;
+        return tick_fade(event.start_time, top, ease, true, time, x);
     }
     x
 }
@@ -69,12 +86,8 @@ fn tick_fade_out(event: Event, time: f64, x: f32) -> f32
         if is_ahead(bottom, event.end_time, time) {
             return x;
         }
-        let phase = floats::narrow(math::delerp(bottom, event.end_time, time));
-        if phase > 0.0 {
-            let ease = event.fade_ease;
-            return x * ease.at(1.0 - phase);
-        }
-        return x;
+        let ease = event.fade_ease;
+        return tick_fade(bottom, event.end_time, ease, false, time, x);
     }
     x
 }
@@ -302,9 +315,9 @@ pub fn fade_out(
     places
 }
 
-// An event after a block, and the places counted so far.
+// What a block leaves of an event: its source after its samples, and the places counted so far.
 pub struct Processed {
-    pub event: Event,
+    pub unit: Unit,
     pub places: Placings,
 }
 
@@ -329,12 +342,7 @@ fn add_run(
     let places = fade_in(span, s, z, event, row, places);
     let places = fade_out(span, s, z, event, row, places);
     runs::add_at(channel, row, s);
-    let mut after = event;
-    after.unit = unit;
-    Processed {
-        event: after,
-        places: places,
-    }
+    Processed { unit, places }
 }
 
 // Whether the fade-in acts in the block.
@@ -370,31 +378,15 @@ fn is_plain(event: Event, span: Span, z: usize, n: usize) -> bool
     !fades_out(event, span)
 }
 
-// The same where no fade acts and the channel has all the places: the samples are added in one pass.
-fn add_plain(
-    event: Event,
-    span: Span,
-    s: usize,
-    z: usize,
-    pool: &[f32],
-    channel: &mut [f32],
-    places: Placings,
-) -> Processed
-    requires { ⌜ s ≤ z ⌝ ∗ ⌜ z ≤ length (now channel) ⌝ ∗ ⌜ (fadesIn (asSpan span) event || fadesOut (asSpan span) event) ≡ false ⌝ }
-    ensures { λ r. ⌜ (r ≡ runProcessed (asSpan span) s z event places) × (now (channel .exit) ≡ addAt s (fadedRun (now (pool .entry)) (asSpan span) s z event) (now (channel .entry))) ⌝ }
+// Without fades: a source's z - s samples at a gain are added, in one pass, to a channel that has all the places; the source after them.
+fn add_plain(unit: Unit, gain: f32, s: usize, z: usize, pool: &[f32], channel: &mut [f32]) -> Unit
+    requires { ⌜ s ≤ z ⌝ ∗ ⌜ z ≤ length (now channel) ⌝ }
+    ensures { λ r. ⌜ (r ≡ advancedBy unit (z - s)) × (now (channel .exit) ≡ addAt s (gained gain (nextSamples (now (pool .entry)) unit (z - s))) (now (channel .entry))) ⌝ }
 {
-    let unit = event.unit;
-    let gain = event.gain;
-    let unit = runs::add_source(&mut channel[s..z], unit, pool, gain);
-    let mut after = event;
-    after.unit = unit;
-    Processed {
-        event: after,
-        places: places,
-    }
+    runs::add_source(&mut channel[s..z], unit, pool, gain)
 }
 
-// One event of a block: its run is added to a channel, it comes back with its source moved on, and its places are counted.
+// One event of a block: its run is added to a channel, its source moves on, and its places are counted.
 pub fn process_event(
     event: Event,
     span: Span,
@@ -414,14 +406,67 @@ pub fn process_event(
     let places = places.add(how);
     if s < z {
         if is_plain(event, span, z, channel.len()) {
-            return add_plain(event, span, s, z, pool, channel, places);
+            let unit = event.unit;
+            let unit = add_plain(unit, event.gain, s, z, pool, channel);
+            return Processed { unit, places };
         }
         let m = z - s;
         let mut row = [0.0f32; 64];
         return add_run(event, span, s, z, pool, &mut row[0..m], channel, places);
     }
-    Processed {
-        event: event,
-        places: places,
+    let unit = event.unit;
+    Processed { unit, places }
+}
+
+// Whether the event sounds in all places of the block, which has some.
+fn is_through(event: Event, span: Span) -> bool
+    ensures { λ r. ⌜ r ≡ goesThrough (asSpan span) event ⌝ }
+{
+    if span.size == 0 {
+        return false;
     }
+    if event.start_time <= span.clock {
+        return span.upto <= event.end_time;
+    }
+    false
+}
+
+// The event, field by field: a caller that does not hand its own on keeps its fields in registers, and copies it only where this is called.
+fn copied(event: Event) -> Event
+    ensures { λ r. ⌜ r ≡ event ⌝ }
+{
+    let unit = event.unit;
+    let source = unit.source;
+    let fade_ease = event.fade_ease;
+    let id = event.id;
+    Event {
+        start_time: event.start_time,
+        end_time: event.end_time,
+        fade_in: event.fade_in,
+        fade_out: event.fade_out,
+        fade_ease: fade_ease,
+        unit: Unit {
+            source: source,
+            value: unit.value,
+            place: unit.place,
+        },
+        gain: event.gain,
+        id: id,
+    }
+}
+
+// The same, and nobody asks for the places: the source after the block. An event that goes through the block without a fade, as most do, is added at once.
+pub fn add_event(event: Event, span: Span, pool: &[f32], channel: &mut [f32]) -> Unit
+    ensures { λ r. ⌜ (r ≡ afterBlock (asSpan span) event .unit) × (now (channel .exit) ≡ channelAfter (now (pool .entry)) (asSpan span) event (now (channel .entry))) ⌝ }
+{
+    if is_through(event, span) {
+        let n = least(64, span.size);
+        if is_plain(event, span, n, channel.len()) {
+            let unit = event.unit;
+            return add_plain(unit, event.gain, 0, n, pool, channel);
+        }
+    }
+    let event = copied(event);
+    let done = process_event(event, span, pool, channel, Placings::new());
+    done.unit
 }

@@ -8,7 +8,6 @@ ghost use Rattle.plans.specs.Sounding.{soundedEvent, soundedRow, written
 use event::Edit;
 use event::Event;
 use event::EventId;
-use event::Placings;
 use event::ReplayMode;
 use event::Unit;
 use mixing::Span;
@@ -392,10 +391,7 @@ pub fn sound(event: Event, step: Step, pool: &[f32], row: &mut [f32]) -> Unit
         rate: step.rate,
         duration: step.duration,
     };
-    let none = Placings::new();
-    let after = mixing::process_event(event, span, pool, row, none);
-    let event = after.event;
-    event.unit
+    mixing::add_event(event, span, pool, row)
 }
 
 pub fn write(step: Step, row: &[f32], samples: &mut [f32])

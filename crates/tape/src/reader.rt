@@ -114,14 +114,26 @@ fn is_unknown(first: bool, bs: &[u8]) -> bool
     false
 }
 
-const SIZES: [usize; 13] = [11, 43, 43, 43, 25, 25, 1, 2, 1, 9, 47, 47, 47];
-
 // A record's length with its kind byte.
 pub fn size_of(kind: u8) -> usize
     ensures { λ r. ⌜ r ≡ sizeOf kind ⌝ }
 {
-    let k = kind as usize;
-    if k < 13 { SIZES[k] } else { 0 }
+    match kind {
+        0 => 11,
+        1 => 43,
+        2 => 43,
+        3 => 43,
+        4 => 25,
+        5 => 25,
+        6 => 1,
+        7 => 2,
+        8 => 1,
+        9 => 9,
+        10 => 47,
+        11 => 47,
+        12 => 47,
+        _ => 0,
+    }
 }
 
 fn mode_of(b: u8) -> ReplayMode

@@ -1,4 +1,3 @@
--- `mixing::tick_fade_out` meets its contract: a fade that cannot act is left out (mixing/specs/LeftOut.antt). Assumes nothing.
 use mathlib.Core.Path.{sym, subst, _∙_}
 use lib.Dec.{T}
 use lib.Ieee.{ofBits}
@@ -15,18 +14,13 @@ returns c =
 
 returns-2 : tie.Need-returns-2
 unfolding fadedOut ofBits
-returns-2 c =
-    rw (c .before .before .before .before .before .before .before .if1 .taken, ← c .before .before .before .delerp .ensures, ← c .before .before .narrow .ensures, c .before .if3 .taken, c .at .ensures)
+returns-2 c = rw (c .before .before .before .before .if1 .taken, c .tick-fade .ensures)
 
 returns-3 : tie.Need-returns-3
 unfolding fadedOut ofBits
-returns-3 c = rw (c .before .before .before .before .before .before .if1 .taken, ← c .before .before .delerp .ensures, ← c .before .narrow .ensures, c .if3 .left)
-
-returns-4 : tie.Need-returns-4
-unfolding fadedOut ofBits
-returns-4 c = rw (c .if1 .left)
+returns-3 c = rw (c .if1 .left)
 
 pub tick-fade-out-spec : {M : Type 1} → statement M
 tick-fade-out-spec =
     tie.close
-    (tie.spec (λ c κs. search needs) returns (λ c κs. search needs) (λ c κs. search needs) (λ c κs. search needs) returns-2 returns-3 returns-4)
+    (tie.spec (λ c κs. search needs) returns (λ c κs. search needs) returns-2 returns-3)

@@ -1,4 +1,3 @@
--- `plans::sound` meets its contract. Assumes nothing.
 use mathlib.Core.Path.{_≡_, ap, _∙_}
 use denote.Ref.{now}
 use lib.Ieee.{Float}
@@ -7,7 +6,6 @@ use Rattle.event.specs.declared.Event.{Event}
 use Rattle.floats.specs.Arithmetic.{_+ˢ_, zeroᶠ}
 use Rattle.ledger.specs.TickSamples.{tickSample, afterTick}
 use Rattle.ledger.specs.BlockSamples.{channelAfter, afterBlock}
-use Rattle.mixing.specs.declared.Processed.{Processed}
 use Rattle.plans.specs.Sounding.{spanIn}
 use Rattle.plans.proofs.Rows.{when, unless}
 use borrow.Author.Needs.{needs}
@@ -24,14 +22,14 @@ returns c =
 
 returns-2 : tie.Need-returns-2
 returns-2 c =
-    let a = c .before .before .before .before .before .before .before .before .before .before .args in
+    let a = c .before .before .before .before .before .before .before .args in
     let row = now (a .row) in (
-      ap (λ (p : Processed). p .event .unit) (c .before .before .before .before .process-event .ensures .0) ∙ ap (λ (e : Event). e .unit) (unless (afterTick (a .event)) (afterBlock (spanIn (a .step)) (a .event)) (c .before .before .before .before .before .before .before .if1 .left)),
-      c .before .before .before .before .process-event .ensures .1 ∙ unless (set row 0 (getD row 0 zeroᶠ +ˢ tickSample (now (a .pool)) (a .step .time) (a .event))) _ (c .before .before .before .before .before .before .before .if1 .left),
+      c .before .before .add-event .ensures .0 ∙ ap (λ (e : Event). e .unit) (unless (afterTick (a .event)) (afterBlock (spanIn (a .step)) (a .event)) (c .before .before .before .before .if1 .left)),
+      c .before .before .add-event .ensures .1 ∙ unless (set row 0 (getD row 0 zeroᶠ +ˢ tickSample (now (a .pool)) (a .step .time) (a .event))) _ (c .before .before .before .before .if1 .left),
     )
 
 pub sound-spec : {M : Type 1} → statement M
 sound-spec =
     tie.close
     (tie.spec (λ c κs. search needs) (λ c κs. search needs) (λ c κs. search needs) (λ c. search needs) returns (λ c κs. search needs)
-    (λ c κs. search needs) (λ c. search needs) returns-2)
+    (λ c. search needs) returns-2)

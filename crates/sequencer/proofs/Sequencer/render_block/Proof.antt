@@ -12,13 +12,14 @@ use lib.Ieee.{Float, ofBits}
 use lib.ListN.{length, getD, take, drop, replicate}
 use Rattle.event.specs.declared.MixOrder.{MixOrder}
 use Rattle.event.specs.declared.Placings.{Placings}
-use Rattle.event.specs.Events.{blank}
+use Rattle.event.specs.Events.{blank, withUnit}
 use Rattle.event.specs.Placings.{noPlacings}
 use lib.Seq.{length-take-le, take-at}
 use Rattle.floats.specs.Arithmetic.{_+ᵈ_, _×ᵈ_, zeroᶠ, whole-is}
 use Rattle.ledger.specs.BlockSamples.{Span, channelAfter, afterBlock, overlay}
 use Rattle.mixing.specs.declared.Processed.{Processed}
 use Rattle.mixing.specs.Blocks.{asSpan, clearedPlaces}
+use Rattle.mixing.specs.Placed.{unit-changes}
 use Rattle.sequencer.specs.declared.Sequencer.{Sequencer}
 use Rattle.sequencer.specs.Parts.{withSounding}
 use Rattle.sequencer.specs.Moves.{advanced}
@@ -112,7 +113,8 @@ loop2-again c =
     let a = d .before .before .before .before .before .before .before .before .before .before .before .args in
     let b = until (a .t1) (a .size) (endBy (a .t1) (d .before .before .before .before .before .before .before .before .nearest-u64-to-f64 .result)) in
     let v : ys ≡ channelAfter (now (a .pool)) b (getD (l .self .active) (p .mix-place .result) blank) (take k (l .mix)) = r .ensures .1 ∙ rw sub-zero in
-    let e = ap (λ (p : Processed). p .event) (r .ensures .0) in (
+    let o = getD (l .self .active) (p .mix-place .result) blank in
+    let e = ap (λ (p : Processed). withUnit (p .unit) o) (r .ensures .0) ∙ unit-changes b o in (
       passing-on (p .mix-place .ensures .0) e (q ∙ v) (t .loop2-test .taken) (l .inv .0),
       passing-on (p .mix-place .ensures .0) e (ap (λ (p : Processed). p .places) (r .ensures .0)) (t .loop2-test .taken) (l .inv .1),
       same-len-mid 0 (k - 0) (l .mix) ys kept ∙ l .inv .2,

@@ -1,0 +1,50 @@
+use Prim.Native.Nat.{_-_, _≤_}
+use mathlib.Core.Path.{_≡_, ap, _∙_, sym}
+use mathlib.Core.Bool.{true, _||_}
+use native.Mathlib.Omega.{arith}
+use borrow.Author.Tests.{leb-true}
+use denote.Ref.{now}
+use lib.Dec.{leb}
+use lib.ListN.{length}
+use Rattle.event.specs.declared.Event.{Event}
+use Rattle.ledger.specs.BlockSamples.{channelAfter, afterBlock}
+use Rattle.mixing.specs.declared.Processed.{Processed}
+use Rattle.mixing.specs.Blocks.{asSpan}
+use Rattle.mixing.specs.Placed.{fadesIn, fadesOut}
+use Rattle.mixing.proofs.Plain.{is-plain, through-unit, through-channel}
+use borrow.Author.Needs.{needs}
+use Rattle.mixing.proofs.add_event.Statement.{statement}
+use Rattle.mixing.proofs.add_event.Tie as tie
+
+add-plain-requires : tie.Need-add-plain-requires
+add-plain-requires c κs =
+    let a = c .before .before .before .before .before .before .before .before .before .args in
+    let b = asSpan (a .span) in
+    let n = c .before .before .before .before .least .result in
+    let k = is-plain (leb n (length (now (a .channel)))) (fadesIn b (a .event) || fadesOut b (a .event)) (sym (c .before .before .before .is-plain .ensures) ∙ c .before .before .if2 .taken) in
+    (omega arith, leb-true n (length (now (a .channel))) (k .0))
+
+returns : tie.Need-returns
+returns c =
+    let a = c .before .before .before .before .before .before .before .before .before .before .before .before .args in
+    let b = asSpan (a .span) in
+    let e = a .event in
+    let n = c .before .before .before .before .before .before .before .least .result in
+    let k = is-plain (leb n (length (now (a .channel)))) (fadesIn b e || fadesOut b e) (sym (c .before .before .before .before .before .before .is-plain .ensures) ∙ c .before .before .before .before .before .if2 .taken) in
+    let h = sym (c .before .before .before .before .before .before .before .before .before .is-through .ensures) ∙ c .before .before .before .before .before .before .before .before .if1 .taken in
+    (c .before .before .add-plain .ensures .0 ∙ rw (c .before .before .before .before .before .before .before .least .ensures) (through-unit b e h (k .1)), c .before .before .add-plain .ensures .1 ∙ rw (c .before .before .before .before .before .before .before .least .ensures) (through-channel b e h (k .1) (now (a .pool)) (now (a .channel))))
+
+returns-2 : tie.Need-returns-2
+returns-2 c =
+    let a = c .before .before .before .before .before .before .before .before .before .before .before .args in
+    let b = asSpan (a .span) in
+    let same = c .before .before .before .before .before .before .copied .ensures in (
+      ap (λ (p : Processed). p .unit) (c .before .before .before .process-event .ensures .0) ∙ ap (λ (e : Event). afterBlock b e .unit) same,
+      c .before .before .before .process-event .ensures .1 ∙ ap (λ (e : Event). channelAfter (now (a .pool)) b e (now (a .channel))) same,
+    )
+
+pub add-event-spec : {M : Type 1} → statement M
+add-event-spec =
+    tie.close
+    (tie.spec (λ c κs. search needs) (λ c κs. search needs) (λ c κs. search needs) add-plain-requires (λ c. search needs) returns
+    (λ c κs. search needs) (λ c κs. search needs) (λ c κs. search needs) (λ c. search needs) returns-2)
