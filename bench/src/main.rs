@@ -331,6 +331,40 @@ fn starts(n: u64, pool: &Arc<[f32]>) {
     }
 }
 
+/// The block in which n events start where the engine stays in place: a tape with such blocks through the C entry, less the same tape without them.
+fn starts_on_tape(n: u64) {
+    const ROUNDS: usize = 20;
+    let tapes = [false, true].map(|starts| tapes::come_in(n, starts, ROUNDS));
+    let mut ours = vec![0xA5; 4 * 64 * ROUNDS];
+    let mut theirs = ours.clone();
+    let length = render::render(&tapes[1], &mut theirs);
+    assert_eq!(
+        port::render(&tapes[1], &mut ours),
+        length,
+        "starts: the counts differ"
+    );
+    assert!(ours == theirs, "starts: the bytes differ");
+    let (mut ours_too, mut theirs_too) = (ours.clone(), theirs.clone());
+    let [our_pushes, pushes, our_both, both] = best(
+        1_000_000,
+        [
+            &mut |k| timed(k, || _ = port::render(black_box(&tapes[0]), &mut ours)),
+            &mut |k| timed(k, || _ = render::render(black_box(&tapes[0]), &mut theirs)),
+            &mut |k| timed(k, || _ = port::render(black_box(&tapes[1]), &mut ours_too)),
+            &mut |k| {
+                timed(k, || {
+                    _ = render::render(black_box(&tapes[1]), &mut theirs_too)
+                })
+            },
+        ],
+    );
+    show(
+        &format!("the block in which they start, {n} events, through the C entry"),
+        [our_both - our_pushes, both - pushes],
+        ROUNDS * n as usize,
+    );
+}
+
 /// A tape through the C entry, and through the same loop in Rust.
 fn entry(what: &str, tape: &[u8]) {
     let records = tapes::count(tape);
@@ -428,6 +462,7 @@ fn main() {
     for n in [16, 256] {
         starts(n, &pool);
     }
+    starts_on_tape(256);
     head("tapes through the C entry, ns a record");
     for (what, tape) in tapes::all(1) {
         entry(what, &tape);

@@ -155,6 +155,44 @@ fn pushed_alone(rounds: usize) -> Vec<u8> {
     writer.tape
 }
 
+/// n events are pushed that sound on without a fade, and where `starts` a block follows in which they all start; then a reset.
+pub fn come_in(n: u64, starts: bool, rounds: usize) -> Vec<u8> {
+    let mut writer = Writer::new(1);
+    for _ in 0..rounds {
+        for i in 0..n {
+            let push = Push {
+                start: 0.0,
+                end: 1000.0,
+                fade_in: 0.0,
+                fade_out: 0.0,
+                curve: if i % 2 == 1 {
+                    Curve::Smooth
+                } else {
+                    Curve::Power
+                },
+                source: match i % 3 {
+                    0 => Source::Held { level: 0.25 },
+                    1 => Source::Ramp {
+                        value: 0.25,
+                        step: 0.00001,
+                    },
+                    _ => Source::Clip {
+                        offset: i as u32,
+                        length: 2048,
+                    },
+                },
+                written_gain: None,
+            };
+            writer.put(Call::Push(PushKind::Absolute, push, 0));
+        }
+        if starts {
+            writer.put(Call::Block(64));
+        }
+        writer.put(Call::Reset);
+    }
+    writer.tape
+}
+
 /// With each push and block: an edit of the pushed clip, which waits, one of a clip that sounds, and one of any of the last 20, which may
 /// have finished: such an edit stays stored up to the reset after each 100 blocks.
 fn edits(rounds: usize) -> Vec<u8> {
