@@ -132,7 +132,8 @@ fn put_rest(buf: &mut [u8], at: usize, have: usize) {
     }
 }
 
-fn main() {
+// Reads the tape that standard input has.
+fn read_tape() {
     let mut buf = io::large_buffer();
     let mut first = true;
     let mut at: usize = 0;
@@ -166,4 +167,29 @@ fn main() {
             have = have + came.count;
         }
     }
+}
+
+fn usage() {
+    io::write_all(2, b"usage: tape_read <TAPE >ARGUMENTS\n");
+    io::write_all(
+        2,
+        b"Takes the tape on standard input apart: for each record its arguments, 120 bytes.\n",
+    );
+    io::write_all(
+        2,
+        b"docs/HANDBOOK.md says what a tape is; tape_text makes one from text.\n",
+    );
+}
+
+// There are no arguments; on a terminal nothing could be read.
+fn main() {
+    if libc::isatty(0) == 1 {
+        usage();
+        return;
+    }
+    if 1 < os::arg_count() {
+        usage();
+        return;
+    }
+    read_tape();
 }

@@ -57,7 +57,8 @@ fn write_out(out: &[u8], used: usize) -> bool {
     false
 }
 
-fn main() {
+// Writes the tape whose arguments standard input has.
+fn write_tape() {
     let mut out = io::large_buffer();
     let mut asked = [0u8; 120];
     let mut used: usize = 0;
@@ -90,4 +91,29 @@ fn main() {
             }
         }
     }
+}
+
+fn usage() {
+    io::write_all(2, b"usage: tape_write <ARGUMENTS >TAPE\n");
+    io::write_all(
+        2,
+        b"Puts a tape together from the arguments on standard input, 120 bytes a record.\n",
+    );
+    io::write_all(
+        2,
+        b"docs/HANDBOOK.md says what a tape is; tape_text makes one from text.\n",
+    );
+}
+
+// There are no arguments; on a terminal nothing could be read.
+fn main() {
+    if libc::isatty(0) == 1 {
+        usage();
+        return;
+    }
+    if 1 < os::arg_count() {
+        usage();
+        return;
+    }
+    write_tape();
 }

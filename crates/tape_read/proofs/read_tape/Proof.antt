@@ -4,8 +4,8 @@ use Prim.Native.Nat.{_≤_}
 use native.Mathlib.Omega.{arith}
 use lib.ListN.{length}
 use lib.Seq.{length-take-le}
-use Rattle.tape_read.proofs.main.Statement.{statement}
-use Rattle.tape_read.proofs.main.Tie as tie
+use Rattle.tape_read.proofs.read_tape.Statement.{statement}
+use Rattle.tape_read.proofs.read_tape.Tie as tie
 
 abbrev Inv-loop : tie.InvT-loop
 Inv-loop buf₀ first₀ at₀ have₀ whole₀ turns₀ buf first at have whole turns = (length buf ≡ 65536) × (have ≤ 65536)
@@ -36,8 +36,8 @@ loop-again-2 c =
     let h = c .before .before .before .before .read-on .ensures (omega arith) in
     (search needs, omega arith)
 
-pub main-spec : {M : Type 1} → statement M
-main-spec =
+pub read-tape-spec : {M : Type 1} → statement M
+read-tape-spec =
     tie.close
     (tie.spec Inv-loop μ-loop (λ c κs. search needs) (λ c. search needs) (λ c. search needs) (λ c κs. search needs) (λ c. search needs)
     slice-aggregate-read (λ c κs. search needs) (λ c. search needs) (λ c. search needs) (λ c κs. search needs) (λ c. search needs)
