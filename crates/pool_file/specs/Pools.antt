@@ -1,12 +1,15 @@
--- The pool of a file: where its samples stand. A WAV's chunks are a name, a length and so many bytes, filled up to an even number; a file that is no RIFF is all samples. They run.
+-- The pool that clips read. Of a file: where its samples stand. A WAV's chunks are a name, a length and so many bytes, filled up to an even number; a file that is no RIFF is all samples. They run.
 use Prim.Native.Nat.{ℕ, zero, suc, _+_, _%_}
 use mathlib.Core.Path.{_≡_, refl}
 use mathlib.Core.Bool.{Bool, true, false, _&&_, _||_, cond}
-use mathlib.Core.List.{List}
+use mathlib.Core.List.{List, _++_}
 use lib.Dec.{eqb, ltb, leb}
-use lib.ListN.{length}
+use lib.ListN.{length, drop}
+use lib.Ieee.{Float}
 use Rattle.listing.specs.Ascii.{ascii}
 use Rattle.tape.specs.Fields.{field, fromLittleEndian}
+use Rattle.tape.specs.Pool.{trailPool}
+use Rattle.pool_file.specs.declared.Loaded.{Loaded}
 use Rattle.pool_file.specs.declared.Place.{Place}
 
 -- names as the little-endian numbers that their letters are
@@ -55,3 +58,10 @@ dataFrom (suc k) file at known =
 unfoldable pub placeOf : (file : List ℕ) → Place
 unfolding dataFrom
 placeOf file = cond (eqb (field file 0 4) riff) (dataFrom (length file) file 12 false) (record { from = 0; size = 18_446_744_073_709_551_615; known = true })
+
+-- document 01's pool at the front of a pool that has room for its 4,096 samples
+unfoldable pub trailLoaded : (room : ℕ) → Loaded
+trailLoaded room = cond (ltb room 4_096) (record { count = 0; good = false }) (record { count = 4_096; good = true })
+
+unfoldable pub withTrailPool : (pool : List Float) → List Float
+withTrailPool pool = cond (ltb (length pool) 4_096) pool (trailPool ++ drop 4_096 pool)

@@ -1,9 +1,10 @@
-// The pool that clips read, from a file: a WAV of one channel of 32-bit floats, or such samples and nothing else. For programs: of what a call of C's reads no contract can speak, so `load` promises no
-// more than a bound. Where the samples stand, how many there are and what ends them is decided by the functions above it, by the definitions of specs/Pools.antt.
+// The pool that clips read: document 01's, or from a file, a WAV of one channel of 32-bit floats, or such samples and nothing else. For programs: of what a call of C's reads no contract can speak, so
+// `load` promises no more than a bound. Where the samples stand, how many there are and what ends them is decided by the functions above it, by the definitions of specs/Pools.antt.
 ghost use mathlib.Core.Path.{_≡_};
 ghost use Prim.Native.Nat.{_≤_};
-ghost use lib.ListN.{length};
-ghost use Rattle.pool_file.specs.Pools.{isOption, monoFloat, knownBy, placeOf, nowhere as noPlace};
+ghost use lib.ListN.{length, drop};
+ghost use mathlib.Core.List.{_++_};
+ghost use Rattle.pool_file.specs.Pools.{isOption, monoFloat, knownBy, placeOf, nowhere as noPlace, trailLoaded, withTrailPool};
 use tape::fields;
 
 // Room for the longest pool.
@@ -106,6 +107,14 @@ pub fn is_option(argument: &[u8]) -> bool
     fields::word(argument, 0, 6) == 0x6C6F_6F70_2D2D
 }
 
+// The option's line of a usage.
+pub fn say_option() {
+    io::write_all(
+        2,
+        b"Clips read from FILE, a WAV of one channel of 32-bit floats or a file of such samples; without it, from document 01's pool.\n",
+    );
+}
+
 // How many samples a pool has; `good` where it can be used.
 pub struct Loaded {
     pub count: usize,
@@ -148,6 +157,34 @@ fn put(buf: &[u8], n: usize, pool: &mut [f32], count: usize) -> usize {
     recording::put_samples(&buf[..n], pool, count)
 }
 
+// Reads more behind the bytes at hand.
+fn more(fd: i32, buf: &mut [u8], s: Filling) -> Filling {
+    let rest = s.have;
+    let came = tape_input::read_on(fd, buf, rest);
+    if came.failed {
+        return ends(s, 2);
+    }
+    if buf.len() < rest {
+        return ends(s, 2);
+    }
+    if buf.len() - rest < came.count {
+        return ends(s, 2);
+    }
+    let mut ended: u64 = 0;
+    if came.count == 0 {
+        ended = 1;
+    }
+    if s.left < 4 {
+        ended = 1;
+    }
+    Filling {
+        have: rest + came.count,
+        left: s.left,
+        count: s.count,
+        ended,
+    }
+}
+
 // Moves on by the bytes at hand, and reads more.
 fn step(fd: i32, buf: &mut [u8], pool: &mut [f32], s: Filling) -> Filling {
     let n = fields::least(s.have, s.left);
@@ -168,30 +205,13 @@ fn step(fd: i32, buf: &mut [u8], pool: &mut [f32], s: Filling) -> Filling {
     }
     let left = s.left - 4 * k;
     let rest = tape_input::shift(buf, 4 * k, s.have);
-    let came = tape_input::read_on(fd, buf, rest);
-    if came.failed {
-        return ends(s, 2);
-    }
-    if buf.len() < rest {
-        return ends(s, 2);
-    }
-    if buf.len() - rest < came.count {
-        return ends(s, 2);
-    }
-    let have = rest + came.count;
-    let mut ended: u64 = 0;
-    if came.count == 0 {
-        ended = 1;
-    }
-    if left < 4 {
-        ended = 1;
-    }
-    Filling {
-        have,
+    let next = Filling {
+        have: rest,
         left,
         count: total,
-        ended,
-    }
+        ended: 0,
+    };
+    more(fd, buf, next)
 }
 
 // All the samples of the file, whose bytes at hand are samples from the first on.
@@ -227,8 +247,8 @@ fn answer(s: Filling, room: usize) -> Loaded
     }
 }
 
-// Puts the samples of a file into `pool`. What is wrong is said on standard error.
-pub fn load(fd: i32, pool: &mut [f32]) -> Loaded
+// Puts the samples of an open file into `pool`.
+fn load_from(fd: i32, pool: &mut [f32]) -> Loaded
     ensures { λ r. ⌜ r .count ≤ length (now (pool .entry)) ⌝ }
 {
     let mut buf = io::large_buffer();
@@ -248,4 +268,53 @@ pub fn load(fd: i32, pool: &mut [f32]) -> Loaded
     };
     let end = fill(fd, &mut buf, pool, s);
     answer(end, pool.len())
+}
+
+// Puts the samples of the file that a path names into `pool`. What is wrong is said on standard error.
+pub fn load(path: &[u8], pool: &mut [f32]) -> Loaded
+    ensures { λ r. ⌜ r .count ≤ length (now (pool .entry)) ⌝ }
+{
+    let fd = os::open_read(path);
+    if fd < 0 {
+        os::fail(path);
+        return Loaded {
+            count: 0,
+            good: false,
+        };
+    }
+    let loaded = load_from(fd, pool);
+    libc::close(fd);
+    loaded
+}
+
+// Puts samples at the front of `pool`.
+fn put_front(samples: &[f32], pool: &mut [f32])
+    requires { ⌜ length (now samples) ≤ length (now pool) ⌝ }
+    ensures { λ _. ⌜ now (pool .exit) ≡ now (samples .entry) ++ drop (length (now (samples .entry))) (now (pool .entry)) ⌝ }
+{
+    let mut i: usize = 0;
+    while i < samples.len() {
+        pool[i] = samples[i];
+        i = i + 1;
+    }
+}
+
+// Puts document 01's pool at the front of `pool`, where it has room, and answers its length.
+pub fn put_trail_pool(pool: &mut [f32]) -> Loaded
+    ensures { λ r. ⌜ r .count ≤ length (now (pool .entry)) ⌝ }
+    ensures { λ r. ⌜ r ≡ trailLoaded (length (now (pool .entry))) ⌝ }
+    ensures { λ _. ⌜ now (pool .exit) ≡ withTrailPool (now (pool .entry)) ⌝ }
+{
+    if pool.len() < 4096 {
+        return Loaded {
+            count: 0,
+            good: false,
+        };
+    }
+    let samples = tape::pool::trail_pool();
+    put_front(&samples, pool);
+    Loaded {
+        count: 4096,
+        good: true,
+    }
 }

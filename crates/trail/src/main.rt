@@ -68,14 +68,8 @@ fn list(pool: &[f32]) {
 
 // With the pool that a file has.
 fn list_with_pool(path: &[u8]) {
-    let fd = os::open_read(path);
-    if fd < 0 {
-        os::fail(path);
-        return;
-    }
     let mut pool = pool_file::room();
-    let loaded = pool_file::load(fd, &mut pool);
-    libc::close(fd);
+    let loaded = pool_file::load(path, &mut pool);
     if !loaded.good {
         return;
     }

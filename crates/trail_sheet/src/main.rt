@@ -9,26 +9,11 @@ ghost use lib.ListN.{length};
 use page::LastMark;
 use page::Page;
 use sequencer::Sequencer;
-use tape::reader::Cursor;
 use tape::reader::Read;
+use tape_pages::both;
 
-// The record at a place of the file: its first 64 bytes are read, and a record needs no more than 47 (tape, specs/Window). `next.at` is the record's length. A failed read counts as the tape's end.
 fn record(fd: i32, at: u64, first: bool) -> Read {
-    if 0x7fff_ffff_ffff_ffff < at {
-        return Read::End;
-    }
-    let mut buf = [0u8; 64];
-    let got = libc::pread(fd, &mut buf, at as i64);
-    if got < 0 {
-        io::write_all(2, b"trail_sheet: the tape cannot be read on\n");
-        return Read::End;
-    }
-    let n = io::count(got, &buf);
-    let c = Cursor { at: 0, first };
-    if n <= 64 {
-        return c.read(&buf[..n]);
-    }
-    Read::End
+    tape_pages::record(b"trail_sheet", fd, at, first)
 }
 
 // ---- clips
@@ -129,10 +114,6 @@ fn hear_if(
     if page.draw {
         waves::hear(page.total, peaks, samples, channels, each, stride, from, to);
     }
-}
-
-fn both(a: bool, b: bool) -> bool {
-    if a { b } else { false }
 }
 
 // The first number: the next one of a fresh engine.
@@ -306,25 +287,9 @@ fn draw(
     play(fd, page, pool, samples, peaks, clips, places, since);
 }
 
-// ---- arguments
-
-fn usage() {
-    io::write_all(2, b"usage: trail_sheet TAPE [--pool FILE]\n");
-    io::write_all(
-        2,
-        b"Draws the tape TAPE as an SVG page on standard output.\n",
-    );
-    io::write_all(
-        2,
-        b"Clips read from FILE, a WAV of one channel of 32-bit floats or a file of such samples; without it, from document 01's pool.\n",
-    );
-}
-
-// Draws the file that a path names, with a pool.
-fn draw_file(tape: &[u8], pool: &[f32]) {
-    let fd = os::open_read(tape);
-    if fd < 0 {
-        os::fail(tape);
+// Draws an open tape, with the first `count` samples of a pool.
+fn draw_file(fd: i32, name: &[u8], pool: &[f32], count: usize) {
+    if pool.len() < count {
         return;
     }
     let mut samples = apply::silence();
@@ -334,69 +299,35 @@ fn draw_file(tape: &[u8], pool: &[f32]) {
     let mut since = tape_tracks::row();
     draw(
         fd,
-        tape,
-        pool,
+        name,
+        &pool[..count],
         &mut samples,
         &mut peaks,
         &mut clips,
         &mut places,
         &mut since,
     );
-    libc::close(fd);
 }
 
-fn with_trail_pool(tape: &[u8]) {
-    let pool = tape::pool::trail_pool();
-    draw_file(tape, &pool);
-}
-
-fn with_pool(tape: &[u8], path: &[u8]) {
-    let fd = os::open_read(path);
-    if fd < 0 {
-        os::fail(path);
+// The same, with the first `letters` of a name.
+fn draw_named(fd: i32, name: &[u8], letters: usize, pool: &[f32], count: usize) {
+    if name.len() < letters {
         return;
     }
-    let mut pool = pool_file::room();
-    let loaded = pool_file::load(fd, &mut pool);
-    libc::close(fd);
-    if !loaded.good {
-        return;
-    }
-    let n = loaded.count;
-    if n <= 262144 {
-        draw_file(tape, &pool[..n]);
-    }
-}
-
-// TAPE, TAPE --pool FILE, or --pool FILE TAPE.
-fn choose(count: usize, a: &[u8], b: &[u8], c: &[u8]) {
-    if count == 2 {
-        if pool_file::is_option(a) {
-            usage();
-            return;
-        }
-        with_trail_pool(a);
-        return;
-    }
-    if count == 4 {
-        if pool_file::is_option(a) {
-            with_pool(c, b);
-            return;
-        }
-        if pool_file::is_option(b) {
-            with_pool(a, c);
-            return;
-        }
-    }
-    usage();
+    draw_file(fd, &name[..letters], pool, count);
 }
 
 fn main() {
-    let mut a = io::buffer();
-    let n = os::arg(1, &mut a);
-    let mut b = io::buffer();
-    let m = os::arg(2, &mut b);
-    let mut c = io::buffer();
-    let k = os::arg(3, &mut c);
-    choose(os::arg_count(), &a[..n], &b[..m], &c[..k]);
+    let mut name = io::buffer();
+    let mut pool = pool_file::room();
+    let opened = tape_pages::open(
+        b"trail_sheet",
+        b"Draws the tape TAPE as an SVG page on standard output.\n",
+        &mut name,
+        &mut pool,
+    );
+    if opened.good {
+        draw_named(opened.fd, &name, opened.name, &pool, opened.count);
+        libc::close(opened.fd);
+    }
 }

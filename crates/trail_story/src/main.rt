@@ -2,35 +2,11 @@
 // standard output: the lines are crate tape_story, where a clip stands is crate tape_tracks, and the calls are the engine's.
 use sequencer::Answer;
 use sequencer::Sequencer;
-use tape::reader::Cursor;
+use tape::reader::Call;
 use tape::reader::Read;
-
-// Writes the first n bytes of a text.
-fn say(text: &[u8], n: usize) {
-    if text.len() < n {
-        return;
-    }
-    io::write_all(1, &text[..n]);
-}
-
-// The record at a place of the file: its first 64 bytes are read, and a record needs no more than 47 (tape, specs/Window). `next.at` is the record's length. A failed read counts as the tape's end.
-fn record(fd: i32, at: u64, first: bool) -> Read {
-    if 0x7fff_ffff_ffff_ffff < at {
-        return Read::End;
-    }
-    let mut buf = [0u8; 64];
-    let got = libc::pread(fd, &mut buf, at as i64);
-    if got < 0 {
-        io::write_all(2, b"trail_story: the tape cannot be read on\n");
-        return Read::End;
-    }
-    let n = io::count(got, &buf);
-    let c = Cursor { at: 0, first };
-    if n <= 64 {
-        return c.read(&buf[..n]);
-    }
-    Read::End
-}
+use tape_pages::both;
+use tape_pages::larger;
+use tape_pages::say;
 
 // ---- clips
 
@@ -94,10 +70,6 @@ struct Quiet {
     calls: u64,
     since: u64,
     peak: u32,
-}
-
-fn larger(a: u32, b: u32) -> u32 {
-    if a < b { b } else { a }
 }
 
 fn tell_quiet(q: Quiet) {
@@ -179,16 +151,6 @@ fn tell_sum(clock: u64, s: Sequencer, pushes: u64) {
     say(&text, n);
 }
 
-// The last lines: what stops the tape, and the sum.
-fn tell_end(r: Read, s: Sequencer, pushes: u64) {
-    let clock = chart::micros(s.time);
-    match r {
-        Read::Refused { kind, number } => tell_stop(clock, kind, number as u64),
-        _ => {}
-    }
-    tell_sum(clock, s, pushes);
-}
-
 // The greatest magnitude among the first `each` samples.
 fn loudest(samples: &[f32], each: usize) -> u32 {
     let mut most = 0;
@@ -203,49 +165,93 @@ fn loudest(samples: &[f32], each: usize) -> u32 {
     most
 }
 
-fn both(a: bool, b: bool) -> bool {
-    if a { b } else { false }
+// The tape as far as it is told: the engine, the clips that are held, the accepted pushes, the quiet calls that are not told yet, and the last call's refusal.
+struct Told {
+    sequencer: Sequencer,
+    count: usize,
+    pushes: u64,
+    quiet: Quiet,
+    refusal: u64,
+}
+
+fn untold() -> Told {
+    Told {
+        sequencer: apply::start(),
+        count: 0,
+        pushes: 0,
+        quiet: no_quiet(),
+        refusal: 0,
+    }
+}
+
+// The last lines: quiet calls, what stops the tape, and the sum.
+fn tell_end(r: Read, t: Told) {
+    let quiet = t.quiet;
+    tell_quiet(quiet);
+    let s = t.sequencer;
+    let clock = chart::micros(s.time);
+    match r {
+        Read::Refused { kind, number } => tell_stop(clock, kind, number as u64),
+        _ => {}
+    }
+    tell_sum(clock, s, t.pushes);
+}
+
+// Plays a record, and tells it.
+fn tell_record(
+    t: Told,
+    kind: u8,
+    call: Call,
+    pool: &[f32],
+    samples: &mut [f32],
+    clips: &mut [u64],
+    places: &mut [u64],
+) -> Told {
+    let before = t.sequencer;
+    let clock = chart::micros(before.time);
+    let clip = before.next;
+    let told = tape_tracks::answer_of(before, call);
+    let a = apply::apply(before, call, pool, samples);
+    let s = a.sequencer;
+    let refusal = a.refusal;
+    let heard = 0 < a.channels;
+    let peak = loudest(samples, a.each);
+    let still = tape_tracks::is_same(before.counts(), s.counts());
+    let quiet_now = both(still, heard);
+    let quiet_before = t.quiet;
+    let quiet = quieter(quiet_before, quiet_now, clock, peak);
+    begin_if(!quiet_now, clock, kind, tape_tracks::edited(call), refusal);
+    let laid = both(refusal == 0, tape::reader::is_push(kind));
+    let place = tape_tracks::place_if(laid, s, clip);
+    let count = enter_if(laid, clips, places, t.count, clip, place);
+    answer_if(both(refusal == 0, !quiet_now), s, kind, told, clip, place);
+    let count = follow_if(!still, s, clips, places, count);
+    end_if(!quiet_now, a.each, heard, peak);
+    Told {
+        sequencer: s,
+        count,
+        pushes: tape_tracks::one_more_if(laid, t.pushes),
+        quiet,
+        refusal,
+    }
 }
 
 // Plays the tape, with the pool and with memory for a block's samples and for the clips that are held.
 fn tell(fd: i32, pool: &[f32], samples: &mut [f32], clips: &mut [u64], places: &mut [u64]) {
-    let mut s = apply::start();
-    let mut count: usize = 0;
-    let mut pushes: u64 = 0;
-    let mut quiet = no_quiet();
+    let mut t = untold();
     let mut first = true;
     let mut at: u64 = 0;
     let mut turns = u64::MAX;
     while turns > 0 {
         turns = turns - 1;
-        let r = record(fd, at, first);
+        let r = tape_pages::record(b"trail_story", fd, at, first);
         let Read::Record { kind, call, next } = r else {
-            tell_quiet(quiet);
-            tell_end(r, s, pushes);
+            tell_end(r, t);
             return;
         };
-        let clock = chart::micros(s.time);
-        let clip = s.next;
-        let counts = s.counts();
-        let told = tape_tracks::answer_of(s, call);
-        let a = apply::apply(s, call, pool, samples);
-        s = a.sequencer;
-        let refusal = a.refusal;
-        let heard = 0 < a.channels;
-        let peak = loudest(samples, a.each);
-        let still = tape_tracks::is_same(counts, s.counts());
-        let quiet_now = both(still, heard);
-        quiet = quieter(quiet, quiet_now, clock, peak);
-        begin_if(!quiet_now, clock, kind, tape_tracks::edited(call), refusal);
-        let laid = both(refusal == 0, tape::reader::is_push(kind));
-        let place = tape_tracks::place_if(laid, s, clip);
-        count = enter_if(laid, clips, places, count, clip, place);
-        pushes = tape_tracks::one_more_if(laid, pushes);
-        answer_if(both(refusal == 0, !quiet_now), s, kind, told, clip, place);
-        count = follow_if(!still, s, clips, places, count);
-        end_if(!quiet_now, a.each, heard, peak);
-        if refusal == 1 {
-            tell_end(Read::End, s, pushes);
+        t = tell_record(t, kind, call, pool, samples, clips, places);
+        if t.refusal == 1 {
+            tell_end(Read::End, t);
             return;
         }
         first = next.first;
@@ -253,83 +259,28 @@ fn tell(fd: i32, pool: &[f32], samples: &mut [f32], clips: &mut [u64], places: &
     }
 }
 
-// ---- arguments
-
-fn usage() {
-    io::write_all(2, b"usage: trail_story TAPE [--pool FILE]\n");
-    io::write_all(2, b"Tells the tape TAPE in lines on standard output.\n");
-    io::write_all(
-        2,
-        b"Clips read from FILE, a WAV of one channel of 32-bit floats or a file of such samples; without it, from document 01's pool.\n",
-    );
-}
-
-// Tells the file that a path names, with a pool.
-fn tell_file(tape: &[u8], pool: &[f32]) {
-    let fd = os::open_read(tape);
-    if fd < 0 {
-        os::fail(tape);
+// Tells an open tape, with the first `count` samples of a pool.
+fn tell_file(fd: i32, pool: &[f32], count: usize) {
+    if pool.len() < count {
         return;
     }
     let mut samples = apply::silence();
     let mut clips = tape_tracks::row();
     let mut places = tape_tracks::row();
-    tell(fd, pool, &mut samples, &mut clips, &mut places);
-    libc::close(fd);
-}
-
-fn with_trail_pool(tape: &[u8]) {
-    let pool = tape::pool::trail_pool();
-    tell_file(tape, &pool);
-}
-
-fn with_pool(tape: &[u8], path: &[u8]) {
-    let fd = os::open_read(path);
-    if fd < 0 {
-        os::fail(path);
-        return;
-    }
-    let mut pool = pool_file::room();
-    let loaded = pool_file::load(fd, &mut pool);
-    libc::close(fd);
-    if !loaded.good {
-        return;
-    }
-    let n = loaded.count;
-    if n <= 262144 {
-        tell_file(tape, &pool[..n]);
-    }
-}
-
-// TAPE, TAPE --pool FILE, or --pool FILE TAPE.
-fn choose(count: usize, a: &[u8], b: &[u8], c: &[u8]) {
-    if count == 2 {
-        if pool_file::is_option(a) {
-            usage();
-            return;
-        }
-        with_trail_pool(a);
-        return;
-    }
-    if count == 4 {
-        if pool_file::is_option(a) {
-            with_pool(c, b);
-            return;
-        }
-        if pool_file::is_option(b) {
-            with_pool(a, c);
-            return;
-        }
-    }
-    usage();
+    tell(fd, &pool[..count], &mut samples, &mut clips, &mut places);
 }
 
 fn main() {
-    let mut a = io::buffer();
-    let n = os::arg(1, &mut a);
-    let mut b = io::buffer();
-    let m = os::arg(2, &mut b);
-    let mut c = io::buffer();
-    let k = os::arg(3, &mut c);
-    choose(os::arg_count(), &a[..n], &b[..m], &c[..k]);
+    let mut name = io::buffer();
+    let mut pool = pool_file::room();
+    let opened = tape_pages::open(
+        b"trail_story",
+        b"Tells the tape TAPE in lines on standard output.\n",
+        &mut name,
+        &mut pool,
+    );
+    if opened.good {
+        tell_file(opened.fd, &pool, opened.count);
+        libc::close(opened.fd);
+    }
 }

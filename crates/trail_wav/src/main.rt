@@ -258,14 +258,8 @@ fn play_with_trail_pool(from: i32, out: &[u8]) {
 
 // With the pool that a file has.
 fn play_with_pool(from: i32, out: &[u8], path: &[u8]) {
-    let fd = os::open_read(path);
-    if fd < 0 {
-        os::fail(path);
-        return;
-    }
     let mut pool = pool_file::room();
-    let loaded = pool_file::load(fd, &mut pool);
-    libc::close(fd);
+    let loaded = pool_file::load(path, &mut pool);
     if !loaded.good {
         return;
     }

@@ -36,10 +36,7 @@ pub(crate) fn usage() {
         2,
         b"Plays the tape TAPE into OUT.wav, a WAV of 32-bit float samples, channels interleaved.\n",
     );
-    io::write_all(
-        2,
-        b"Clips read from FILE, a WAV of one channel of 32-bit floats or a file of such samples; without it, from document 01's pool.\n",
-    );
+    pool_file::say_option();
     io::write_all(
         2,
         b"docs/HANDBOOK.md says what a tape is; tape_text makes one from text.\n",

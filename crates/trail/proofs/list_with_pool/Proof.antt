@@ -6,11 +6,10 @@ use Rattle.trail.proofs.list_with_pool.Statement.{statement}
 use Rattle.trail.proofs.list_with_pool.Tie as tie
 
 slice-aggregate-list : tie.Need-slice-aggregate-list
-slice-aggregate-list c = sym (length-take-le _ _ (omega (arith, c .before .before .before .before .before .before .before .before .room .ensures, c .before .if3 .taken)))
+slice-aggregate-list c = sym (length-take-le _ _ (omega (arith, c .before .before .before .before .before .before .before .room .ensures, c .before .if2 .taken)))
 
 pub list-with-pool-spec : {M : Type 1} → statement M
 list-with-pool-spec =
     tie.close
-    (tie.spec (λ c κs. search needs) (λ c κs. search needs) (λ c. search needs) (λ c κs. search needs) (λ c. search needs)
-    (λ c κs. search needs) (λ c κs. search needs) (λ c. search needs) (λ c. search needs) slice-aggregate-list (λ c κs. search needs)
-    (λ c. search needs) (λ c. search needs))
+    (tie.spec (λ c κs. search needs) (λ c. search needs) (λ c κs. search needs) (λ c. search needs) (λ c. search needs)
+    slice-aggregate-list (λ c κs. search needs) (λ c. search needs) (λ c. search needs))
