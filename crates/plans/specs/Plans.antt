@@ -36,13 +36,12 @@ abbrev pub releasesIn : ReplayMode → Bool
 releasesIn All = false
 releasesIn None = true
 
-abbrev pub stepOf : (tick : Bool) → (size channels stride : ℕ) → (end : Float) → Clock → Step
-stepOf tick n k w end c = record {
+abbrev pub stepOf : (tick : Bool) → (size channels : ℕ) → (end : Float) → Clock → Step
+stepOf tick n k end c = record {
   tick = tick;
   releases = releasesIn (c .mode);
   size = n;
   channels = k;
-  stride = w;
   time = c .time;
   end = end;
   limit = c .time +ᵈ halfᶠ ×ᵈ c .duration;
@@ -60,14 +59,14 @@ unfolding stepPlan
 tickPlan c room =
     let k = min (c .outputs) 8 in
     let no = tickRefusal k (c .outputs) (c .time) (c .duration) in
-    cond (eqb no 0) (stepPlan room (stepOf true 1 k 1 (c .time +ᵈ c .duration) c)) (Answer no)
+    cond (eqb no 0) (stepPlan room (stepOf true 1 k (c .time +ᵈ c .duration) c)) (Answer no)
 
 unfoldable pub blockPlan : (size : ℕ) → Clock → (room : ℕ) → Plan
 unfolding stepPlan
 blockPlan n c room =
     let k = min (c .outputs) 8 in
     let no = processRefusal n (64 * k) (c .outputs) (c .time) (c .duration) in
-    cond (eqb no 0) (stepPlan room (stepOf false n k 64 (c .time +ᵈ c .duration ×ᵈ whole n) c)) (Answer no)
+    cond (eqb no 0) (stepPlan room (stepOf false n k (c .time +ᵈ c .duration ×ᵈ whole n) c)) (Answer no)
 
 -- ---- an edit, a reset and a rate
 
@@ -125,6 +124,10 @@ lesserChild c n left right = cond (ltb (c + 1) n && earlier right left) (c + 1) 
 -- a corrupt count holds nothing
 abbrev pub isWithin : (i n : ℕ) → Bool
 isWithin i n = ltb i n && leb n 256
+
+-- the next place of the sweep: the same where the last of the sounding has filled it
+abbrev pub afterPlace : (i : ℕ) → (ends : Bool) → ℕ
+afterPlace i ends = cond ends i ((i + 1) % 2 ^ 64)
 
 -- ---- everything waits again
 

@@ -3,8 +3,8 @@ ghost use mathlib.Core.Path.{_≡_};
 ghost use Prim.Native.Nat.{_≤_};
 ghost use lib.ListN.{getD, set};
 ghost use Rattle.floats.specs.Arithmetic.{_+ˢ_, zeroᶠ, -∞};
-ghost use Rattle.plans.specs.Plans.{pushPlan, releasesIn, stepOf, stepPlan, tickPlan, blockPlan, editPlan, resetPlan, ratePlan, planOf, letGoAfter, pastAfter, startsBefore, countedPlaces, lesserChild, isWithin, rewoundPlaces, allGone};
-ghost use Rattle.plans.specs.Sounding.{soundedEvent, soundedRow, writtenTo};
+ghost use Rattle.plans.specs.Plans.{pushPlan, releasesIn, stepOf, stepPlan, tickPlan, blockPlan, editPlan, resetPlan, ratePlan, planOf, letGoAfter, pastAfter, startsBefore, countedPlaces, lesserChild, isWithin, afterPlace, rewoundPlaces, allGone};
+ghost use Rattle.plans.specs.Sounding.{soundedEvent, soundedRow};
 use event::Edit;
 use event::Event;
 use event::EventId;
@@ -33,13 +33,12 @@ pub struct Clock {
     pub next: u64,
 }
 
-// A tick or block that is not refused: its size, channels and their stride, the clock at its beginning and end, the limit by which an event has ended and the threshold before which one starts.
+// A tick or block that is not refused: its size and channels, the clock at its beginning and end, the limit by which an event has ended and the threshold before which one starts.
 pub struct Step {
     pub tick: bool,
     pub releases: bool,
     pub size: usize,
     pub channels: usize,
-    pub stride: usize,
     pub time: f64,
     pub end: f64,
     pub limit: f64,
@@ -107,17 +106,9 @@ fn releases(mode: ReplayMode) -> bool
     }
 }
 
-fn step_plan(
-    tick: bool,
-    size: usize,
-    channels: usize,
-    stride: usize,
-    end: f64,
-    clock: Clock,
-    room: usize,
-) -> Plan
+fn step_plan(tick: bool, size: usize, channels: usize, end: f64, clock: Clock, room: usize) -> Plan
     requires { ⌜ (channels ≤ 8) × (size ≤ 255) ⌝ }
-    ensures { λ r. ⌜ r ≡ stepPlan room (stepOf tick size channels stride end clock) ⌝ }
+    ensures { λ r. ⌜ r ≡ stepPlan room (stepOf tick size channels end clock) ⌝ }
 {
     if room < 4 * (channels * size) {
         return Plan::Full;
@@ -128,7 +119,6 @@ fn step_plan(
         releases: releases(mode),
         size,
         channels,
-        stride,
         time: clock.time,
         end,
         limit: clock.time + 0.5 * clock.duration,
@@ -146,15 +136,7 @@ fn tick_plan(clock: Clock, room: usize) -> Plan
     if no != 0 {
         return Plan::Answer(no);
     }
-    step_plan(
-        true,
-        1,
-        channels,
-        1,
-        clock.time + clock.duration,
-        clock,
-        room,
-    )
+    step_plan(true, 1, channels, clock.time + clock.duration, clock, room)
 }
 
 fn block_plan(size: usize, clock: Clock, room: usize) -> Plan
@@ -173,7 +155,7 @@ fn block_plan(size: usize, clock: Clock, room: usize) -> Plan
         return Plan::Answer(no);
     }
     let end = clock.time + clock.duration * std::num::nearest_u64_to_f64(size as u64);
-    step_plan(false, size, channels, 64, end, clock, room)
+    step_plan(false, size, channels, end, clock, room)
 }
 
 // `end` is the end as given, `until` the end as it is to be.
@@ -329,6 +311,16 @@ pub fn within(i: usize, n: usize) -> bool
     i < n
 }
 
+// The next place of the sweep: the same where S's last has filled it.
+pub fn after(i: usize, ends: bool) -> usize
+    ensures { λ r. ⌜ r ≡ afterPlace i ends ⌝ }
+{
+    if ends {
+        return i;
+    }
+    std::num::wrapping_add_usize(i, 1)
+}
+
 // ---- everything waits again
 
 // How many of the waiting are rewound.
@@ -357,15 +349,6 @@ pub fn lowest() -> f64
 
 // ---- samples
 
-fn first(row: &[f32]) -> f32
-    ensures { λ r. ⌜ r ≡ getD (now (row .entry)) 0 zeroᶠ ⌝ }
-{
-    if 0 < row.len() {
-        return row[0];
-    }
-    0.0
-}
-
 fn add_first(row: &mut [f32], x: f32)
     ensures { λ _. ⌜ now (row .exit) ≡ set (now (row .entry)) 0 (getD (now (row .entry)) 0 zeroᶠ +ˢ x) ⌝ }
 {
@@ -392,17 +375,4 @@ pub fn sound(event: Event, step: Step, pool: &[f32], row: &mut [f32]) -> Unit
         duration: step.duration,
     };
     mixing::add_event(event, span, pool, row)
-}
-
-pub fn write(step: Step, row: &[f32], samples: &mut [f32])
-    ensures { λ _. ⌜ now (samples .exit) ≡ writtenTo step (now (row .entry)) (now (samples .entry)) ⌝ }
-{
-    if step.tick {
-        let n = least(step.channels, samples.len());
-        let x = first(row);
-        runs::set_all(&mut samples[..n], x);
-        return;
-    }
-    let n = least(64 * least(step.channels, 8), samples.len());
-    runs::overlay_channels(&mut samples[..n], row);
 }

@@ -19,19 +19,22 @@ use Rattle.tape.specs.declared.reader.Read.{Read}
 use Rattle.tape.specs.declared.reader.Read.the-variants.{Record, Refused, End}
 use Rattle.tape.specs.Tape.{readAt, recordOf, unknown, sizeOf, sizes, kindOf, callOf}
 use Rattle.tape.specs.Kinds.{each-kind, known}
+use Rattle.listing.specs.Pieces.{joined}
 use Rattle.listing.specs.Putting.{sets-append}
 use Rattle.apply.specs.declared.Applied.{Applied}
 use Rattle.apply.specs.Applying.{silent, appliedTo, appliedOut}
-use Rattle.player.specs.declared.Form.{Form}
-use Rattle.player.specs.declared.Form.the-variants.{Bytes, Lines}
-use Rattle.player.specs.declared.Pause.{Pause}
-use Rattle.player.specs.declared.Pause.the-variants as Pause
+use Rattle.record_output.specs.declared.Form.{Form}
+use Rattle.record_output.specs.declared.Form.the-variants.{Bytes, Lines}
+use Rattle.record_output.specs.declared.Pause.{Pause}
+use Rattle.record_output.specs.declared.Pause.the-variants as Pause
+use Rattle.record_output.specs.declared.Left.{Left}
+use Rattle.record_output.specs.Bytes.{bytesOf, channelsOf}
+use Rattle.record_output.specs.Lines.{leaves, roomFor, noneLeft, leftIn, Fits, Stands}
+use Rattle.record_output.specs.Endings.{ending, isShort, Gives}
+use Rattle.record_output.specs.Rows.{Rows, row-leaves}
+use Rattle.plan_meaning.specs.Meaning.{soundOf}
 use Rattle.player.specs.declared.Played.{Played}
-use Rattle.player.specs.declared.lines.Left.{Left}
-use Rattle.player.specs.Bytes.{bytesOf, channelsOf}
-use Rattle.player.specs.Lines.{leaves, roomFor, noneLeft, leftIn, neededIn}
-use Rattle.player.proofs.Listed.{Gives}
-use Rattle.player.specs.Records.{Ran, Rest, stops, behind, answerOf, leftBy, afterCall, ending, afterRead, isShort, atEnd, ranFrom, ran}
+use Rattle.player.specs.Records.{Ran, Rest, stops, behind, answerOf, leftBy, afterCall, afterRead, atEnd, ranFrom, ran}
 
 -- ---- a record that was read moves the cursor on
 
@@ -80,10 +83,6 @@ moves t c k call next e = go (ltb (c .at) (length t)) (ltb-true (c .at) (length 
 
 -- ---- one turn of the definition
 
--- what a record's call a has left in the output, as bytes
-abbrev pub soundOf : Applied → (samples : List Float) → List ℕ
-soundOf a samples = bytesOf (channelsOf (a .channels) (a .each) (a .stride) samples)
-
 module _ (form : Form) (pool : List Float) (t : List ℕ) (whole : Bool) where
   turnOf : Rest → Sequencer → Cursor → (samples : List Float) → (room : ℕ) → Read → Ran
   turnOf rest s c samples room r = cond (isShort whole (length t) (c .at)) (stops s c [] Pause.Short) (afterRead form pool rest r s c samples room)
@@ -108,9 +107,9 @@ module _ (form : Form) (pool : List Float) (t : List ℕ) (whole : Bool) where
   -- ---- the loop
 
   -- what comes from the last record on
-  abbrev pub afterLeft : (f : ℕ) → Sequencer → Cursor → Left → (samples : List Float) → (room : ℕ) → Ran
-  afterLeft f s c left samples room =
-      let bytes = leftIn form left (countsOf s) samples in
+  abbrev pub afterLeft : (f : ℕ) → Sequencer → Cursor → Left → (row samples : List Float) → (room : ℕ) → Ran
+  afterLeft f s c left row samples room =
+      let bytes = leftIn form left (countsOf s) row in
       cond (eqb (left .refusal) 1) (stops s c bytes (Pause.Refused 1)) (behind bytes (ranFrom form pool t whole f s c samples (room - length bytes)))
 
   -- and what comes behind it
@@ -121,20 +120,18 @@ module _ (form : Form) (pool : List Float) (t : List ℕ) (whole : Bool) where
     abbrev pub all : Ran
     all = ran form pool t whole s₀ c₀ (length out₀)
 
-    -- at the beginning of a turn: `samples` is the output that the engine s is lent, `left` the record whose part is still to be put
-    pub record Rolling (out : List ℕ) (s : Sequencer) (c : Cursor) (samples : List Float) (left : Left) (at : ℕ) : Type 0 where
+    -- at the beginning of a turn: `left` is the record whose part is still to be put, from the row; `samples` is the output that the definition lends the engine s
+    pub record Rolling (out : List ℕ) (s : Sequencer) (c : Cursor) (row : List Float) (left : Left) (at : ℕ) : Type 0 where
+      pub samples : List Float
       pub long : length samples ≡ 512
+      pub wide : length row ≡ 64
       pub fuel : ℕ
       pub enough : length t ≤ c .at + fuel
       pub done : List ℕ
       pub is : out ≡ sets out₀ 0 done
       pub place : at ≡ length done
-      pub gives : all ≡ behind done (afterLeft fuel s c left samples (length out₀ - at))
-      pub wide : left .each ≤ left .stride
-      pub small : left .each ≤ 64
-      pub few : left .channels ≤ 8
-      pub inside : left .channels * left .stride ≤ length samples
-      pub fits : at + neededIn form left (countsOf s) samples ≤ length out₀
+      pub gives : all ≡ behind done (afterLeft fuel s c left row samples (length out₀ - at))
+      pub fits : Fits form left (countsOf s) row at (length out₀)
 
     -- once it has been put
     pub record Resting (out : List ℕ) (s : Sequencer) (c : Cursor) (samples : List Float) (left : Left) (at : ℕ) : Type 0 where
@@ -147,34 +144,35 @@ module _ (form : Form) (pool : List Float) (t : List ℕ) (whole : Bool) where
       pub gives : all ≡ behind done (afterIt fuel s c left samples (length out₀ - at))
       pub within : at ≤ length out₀
 
-    pub start : (samples : List Float) → samples ≡ replicate 512 zeroᶠ → (left : Left) → left ≡ noneLeft → Rolling out₀ s₀ c₀ samples left 0
-    unfolding ran
-    start samples e left n =
-        subst (λ (x : List Float). Rolling out₀ s₀ c₀ x left 0) (sym e)
-        (subst (λ (l : Left). Rolling out₀ s₀ c₀ (replicate 512 zeroᶠ) l 0) (sym n) (record {
+    pub start : (row : List Float) → length row ≡ 64 → (left : Left) → left ≡ noneLeft → Rolling out₀ s₀ c₀ row left 0
+    unfolding ran joined
+    start row e left n =
+        subst (λ (l : Left). Rolling out₀ s₀ c₀ row l 0) (sym n) (record {
+          samples = replicate 512 zeroᶠ;
           long = length-replicate 512 zeroᶠ;
+          wide = e;
           fuel = length t;
           enough = omega arith;
           done = [];
           is = refl;
           place = refl;
           gives = ap (ranFrom form pool t whole (length t) s₀ c₀ (replicate 512 zeroᶠ)) (let z : length out₀ ≡ length out₀ - 0 - 0 = omega arith in z);
-          wide = omega arith;
-          small = omega arith;
-          few = omega arith;
-          inside = omega arith;
-          fits = omega arith;
-        }))
+          fits = (omega arith, (omega arith, omega arith));
+        })
 
-    module _ {out : List ℕ} {s : Sequencer} {c : Cursor} {samples : List Float} {left : Left} {at : ℕ} where
-      pub same-out : Rolling out s c samples left at → length out ≡ length out₀
+    module _ {out : List ℕ} {s : Sequencer} {c : Cursor} {row : List Float} {left : Left} {at : ℕ} where
+      pub same-out : Rolling out s c row left at → length out ≡ length out₀
       same-out w = ap length (w .is) ∙ length-sets out₀ 0 (w .done)
 
       -- the last record's part is put
-      pub rests : Rolling out s c samples left at → {out′ : List ℕ} {at′ : ℕ} → out′ ≡ sets out at (leftIn form left (countsOf s) samples) → at′ ≡ at + length (leftIn form left (countsOf s) samples) → at′ ≤ length out
-          → Resting out′ s c samples left at′
-      rests w {out′} {at′} e n b =
-          let bytes = leftIn form left (countsOf s) samples in
+      pub rests : (w : Rolling out s c row left at) → {out′ : List ℕ} {at′ : ℕ} → (Fits form left (countsOf s) row at (length out) → Stands form left (countsOf s) row out at out′ at′)
+          → Resting out′ s c (w .samples) left at′
+      rests w {out′} {at′} put =
+          let bytes = leftIn form left (countsOf s) row in
+          let there = put (subst (Fits form left (countsOf s) row at) (sym (same-out w)) (w .fits)) in
+          let e = there .0 in
+          let n = there .1 .0 in
+          let b = there .1 .1 in
           let p = w .place in
           let k = length-append (w .done) bytes in
           let long = same-out w in
@@ -187,18 +185,18 @@ module _ (form : Form) (pool : List Float) (t : List ℕ) (whole : Bool) where
             done = w .done ++ bytes;
             is = e ∙ (λ i. sets (w .is i) (zero-at i) bytes) ∙ sets-append out₀ 0 (w .done) bytes;
             place = omega arith;
-            gives = w .gives ∙ go (eqb (left .refusal) 1) ∙ ap (λ (r : ℕ). behind (w .done ++ bytes) (afterIt (w .fuel) s c left samples r)) room;
+            gives = w .gives ∙ go (eqb (left .refusal) 1) ∙ ap (λ (r : ℕ). behind (w .done ++ bytes) (afterIt (w .fuel) s c left (w .samples) r)) room;
             within = omega arith;
           }
         where
           go : (b : Bool)
-              → (let bytes = leftIn form left (countsOf s) samples in
-              behind (w .done) (cond b (stops s c bytes (Pause.Refused 1)) (behind bytes (ranFrom form pool t whole (w .fuel) s c samples (length out₀ - at - length bytes))))
-              ≡ behind (w .done ++ bytes) (cond b (stops s c [] (Pause.Refused 1)) (ranFrom form pool t whole (w .fuel) s c samples (length out₀ - at - length bytes))))
-          go true = let bytes = leftIn form left (countsOf s) samples in ap (λ (x : List ℕ). stops s c x (Pause.Refused 1)) (sym (append-nil (w .done ++ bytes)))
+              → (let bytes = leftIn form left (countsOf s) row in
+              behind (w .done) (cond b (stops s c bytes (Pause.Refused 1)) (behind bytes (ranFrom form pool t whole (w .fuel) s c (w .samples) (length out₀ - at - length bytes))))
+              ≡ behind (w .done ++ bytes) (cond b (stops s c [] (Pause.Refused 1)) (ranFrom form pool t whole (w .fuel) s c (w .samples) (length out₀ - at - length bytes))))
+          go true = let bytes = leftIn form left (countsOf s) row in ap (λ (x : List ℕ). stops s c x (Pause.Refused 1)) (sym (append-nil (w .done ++ bytes)))
           go false =
-              let bytes = leftIn form left (countsOf s) samples in
-              let r = ranFrom form pool t whole (w .fuel) s c samples (length out₀ - at - length bytes) in
+              let bytes = leftIn form left (countsOf s) row in
+              let r = ranFrom form pool t whole (w .fuel) s c (w .samples) (length out₀ - at - length bytes) in
               ap (λ (x : List ℕ). stops (r .sequencer) (r .cursor) x (r .pause)) (sym (append-assoc (w .done) bytes (r .written)))
 
     -- what the loop is to give back
@@ -293,40 +291,45 @@ module _ (form : Form) (pool : List Float) (t : List ℕ) (whole : Bool) where
                 go Bytes h = lt-ltb (length out₀ - at) (length (soundOf a o)) m
                 go Lines h = let z = ltb-false (length out₀ - at) 4716 h in absurd (omega arith)
 
-            pub goes-on : length o ≡ 512 → a .each ≤ a .stride → a .each ≤ 64 → a .channels ≤ 8 → a .channels * a .stride ≤ 512 → ltb (length out₀ - at) (roomFor form []) ≡ false → length (soundOf a o) ≤ length out₀ - at
-                → (l : Left) → l ≡ record { any = true; kind = k; refusal = a .refusal; channels = a .channels; each = a .each; stride = a .stride } → (s′ : Sequencer) → s′ ≡ a .sequencer → Rolling out s′ next o l at
+            -- what the row leaves is what the call's samples leave
+            pub goes-on : length o ≡ 512 → (row : List Float) → length row ≡ 64 → a .each ≤ 64 → a .channels ≤ 8 → Rows (a .channels) (a .each) (a .stride) row o → ltb (length out₀ - at) (roomFor form []) ≡ false → length (soundOf a o) ≤ length out₀ - at
+                → (l : Left) → l ≡ record { any = true; kind = k; refusal = a .refusal; channels = a .channels; each = a .each } → (s′ : Sequencer) → s′ ≡ a .sequencer → Rolling out s′ next row l at
             unfolding afterCall leaves
-            goes-on long wide small few inside f m l is s′ r =
+            goes-on long row wide small few rows f m l is s′ r =
                 let n = moves t c k call next e in
                 let x = n .0 in
                 let y = n .1 in
                 let g = w .enough in
                 let i = w .within in
-                let v : Left = record { any = true; kind = k; refusal = a .refusal; channels = a .channels; each = a .each; stride = a .stride } in
+                let v : Left = record { any = true; kind = k; refusal = a .refusal; channels = a .channels; each = a .each } in
                 let room : roomFor form (leftBy form k a o) ≤ length out₀ - at = go form f in
-                subst (λ (x : Sequencer). Rolling out x next o l at) (sym r)
-                (subst (λ (z : Left). Rolling out (a .sequencer) next o z at) (sym is) (record {
+                let shown : leftIn form v (countsOf (a .sequencer)) row ≡ leftBy form k a o = row-leaves form k (a .refusal) (countsOf (a .sequencer)) (a .channels) (a .each) (a .stride) row o rows in
+                let needed = ap (roomFor form) shown in
+                let carried : afterCall form (ranFrom form pool t whole (w .fuel - 1)) s c k a o next (length out₀ - at) ≡ from (leftBy form k a o) = simp (le-ltb (length out₀ - at) (roomFor form (leftBy form k a o)) room) in
+                subst (λ (x : Sequencer). Rolling out x next row l at) (sym r)
+                (subst (λ (z : Left). Rolling out (a .sequencer) next row z at) (sym is) (record {
+                  samples = o;
                   long = long;
+                  wide = wide;
                   fuel = w .fuel - 1;
                   enough = omega arith;
                   done = w .done;
                   is = w .is;
                   place = w .place;
-                  gives = w .gives ∙ ap (behind (w .done)) (called ∙ simp (le-ltb (length out₀ - at) (roomFor form (leftBy form k a o)) room));
-                  wide = wide;
-                  small = small;
-                  few = few;
-                  inside = omega arith;
-                  fits = omega arith;
+                  gives = w .gives ∙ ap (behind (w .done)) (called ∙ carried ∙ ap from (sym shown));
+                  fits = (small, (few, omega arith));
                 }))
               where
+                from : List ℕ → Ran
+                from bytes = cond (eqb (a .refusal) 1) (stops (a .sequencer) next bytes (Pause.Refused 1)) (behind bytes (ranFrom form pool t whole (w .fuel - 1) (a .sequencer) next o (length out₀ - at - length bytes)))
+
                 go : (x : Form) → ltb (length out₀ - at) (roomFor x []) ≡ false → roomFor x (leftBy x k a o) ≤ length out₀ - at
                 go Bytes h = m
                 go Lines h = ltb-false (length out₀ - at) 4716 h
 
           -- a record without samples leaves the output as it was
           pub goes-on-silent : (k : ℕ) (call : Call) (next : Cursor) → readAt t c ≡ Record k call next → {s′ : Sequencer} {n : ℕ} → appliedTo pool s call samples ≡ silent s′ n → appliedOut pool s call samples ≡ samples
-              → ltb (length out₀ - at) (roomFor form []) ≡ false → (l : Left) → l ≡ record { any = true; kind = k; refusal = n; channels = 0; each = 0; stride = 0 } → (x : Sequencer) → x ≡ s′ → Rolling out x next samples l at
+              → (row : List Float) → length row ≡ 64 → ltb (length out₀ - at) (roomFor form []) ≡ false → (l : Left) → l ≡ record { any = true; kind = k; refusal = n; channels = 0; each = 0 } → (x : Sequencer) → x ≡ s′ → Rolling out x next row l at
           unfolding bytesOf channelsOf
-          goes-on-silent k call next e {s′} {n} p q f =
-              goes-on k call next e (silent s′ n) samples (sym p) (sym q) (w .long) (omega arith) (omega arith) (omega arith) (omega arith) f (omega arith)
+          goes-on-silent k call next e {s′} {n} p q row wide f =
+              goes-on k call next e (silent s′ n) samples (sym p) (sym q) (w .long) row wide (omega arith) (omega arith) tt f (omega arith)

@@ -8,7 +8,6 @@ use lib.ListN.{length, replicate}
 use Rattle.event.specs.declared.ReplayMode.the-variants.{All}
 use Rattle.floats.specs.Arithmetic.{zeroᶠ}
 use Rattle.sequencer.specs.declared.Sequencer.{Sequencer}
-use Rattle.sequencer.specs.declared.readers.Counts.{Counts}
 use Rattle.sequencer.specs.Creation.{created}
 use Rattle.sequencer.specs.Readers.{countsOf}
 use Rattle.tape.specs.declared.reader.Cursor.{Cursor}
@@ -17,12 +16,13 @@ use Rattle.tape.specs.declared.reader.Read.the-variants as Read
 use Rattle.tape.specs.Tape.{readAt}
 use Rattle.apply.specs.declared.Applied.{Applied}
 use Rattle.apply.specs.Applying.{appliedTo, appliedOut}
-use Rattle.player.specs.declared.Form.{Form}
-use Rattle.player.specs.declared.Form.the-variants.{Bytes, Lines}
-use Rattle.player.specs.declared.Pause.{Pause}
-use Rattle.player.specs.declared.Pause.the-variants.{End, Refused, Full, Short}
+use Rattle.record_output.specs.declared.Form.{Form}
+use Rattle.record_output.specs.declared.Form.the-variants.{Bytes, Lines}
+use Rattle.record_output.specs.declared.Pause.{Pause}
+use Rattle.record_output.specs.declared.Pause.the-variants.{End, Refused, Full, Short}
+use Rattle.record_output.specs.Lines.{leaves, roomFor}
+use Rattle.record_output.specs.Endings.{ending, isShort}
 use Rattle.player.specs.declared.Played.{Played}
-use Rattle.player.specs.Lines.{leaves, recordLine, roomFor}
 
 -- what the records leave: an engine and a cursor to go on from, what is written, and why they stopped
 pub record Ran : Type 0 where
@@ -56,22 +56,6 @@ afterCall form rest s c kind a samples next room =
     cond (ltb room (roomFor form bytes)) (stops s c [] Full)
     (cond (eqb (a .refusal) 1) (stops (a .sequencer) next bytes (Refused 1)) (behind bytes (rest (a .sequencer) next samples (room - length bytes))))
 
--- what is written, and why the records stop, where none is read: 14 and 15 have "counts as before"
-pub record Ending : Type 0 where
-  pub written : List ℕ
-  pub pause : Pause
-
-abbrev pub refusedLine : Form → (kind number : ℕ) → Counts → List ℕ
-refusedLine Bytes kind number counts = []
-refusedLine Lines kind number counts = recordLine kind number counts
-
-unfoldable pub ending : Form → Read → Counts → (room : ℕ) → Ending
-ending form (Read.Record kind call next) counts room = record { written = []; pause = End }
-ending form (Read.Refused kind number) counts room =
-    let line = refusedLine form kind number counts in
-    cond (ltb room (roomFor form [])) (record { written = []; pause = Full }) (record { written = line; pause = Refused number })
-ending form Read.End counts room = record { written = []; pause = End }
-
 unfoldable pub afterRead : Form → (pool : List Float) → Rest → Read → Sequencer → Cursor → (samples : List Float) → (room : ℕ) → Ran
 unfolding afterCall ending
 afterRead form pool rest (Read.Record kind call next) s c samples room = afterCall form rest s c kind (appliedTo pool s call samples) (appliedOut pool s call samples) next room
@@ -79,11 +63,6 @@ afterRead form pool rest (Read.Refused kind number) s c samples room =
     let e = ending form (Read.Refused kind number) (countsOf s) room in
     stops s c (e .written) (e .pause)
 afterRead form pool rest Read.End s c samples room = stops s c [] End
-
--- of a tape that goes on, fewer bytes are left than a record may need (tape/specs/Window)
-abbrev pub isShort : (whole : Bool) → (length at : ℕ) → Bool
-isShort true n at = false
-isShort false n at = ltb (n - at) 47
 
 -- where no byte is left
 abbrev pub atEnd : (whole : Bool) → Pause

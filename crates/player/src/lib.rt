@@ -1,7 +1,4 @@
 // A tape's records on an engine that stays in place. What a record asks for is decided before, on small values (crate plans).
-mod bytes;
-mod lines;
-
 ghost use mathlib.Core.Path.{_≡_};
 ghost use mathlib.Core.List.{_++_};
 ghost use lib.ListN.{length, drop};
@@ -9,26 +6,14 @@ ghost use Rattle.player.specs.Records.{ran, answerOf, played};
 use event::StoredEdit;
 use plans::Clock;
 use plans::Plan;
+use record_output::Form;
+use record_output::Pause;
 use refusals::held;
 use runs::least;
 use sequencer::Counts;
 use sequencer::Sequencer;
 use tape::reader::Cursor;
 use tape::reader::Read;
-
-// What a record leaves in the output: its samples as bytes (the C entry), or its lines of the listing (`trail`).
-pub enum Form {
-    Bytes,
-    Lines,
-}
-
-// Why the records stopped: the tape's end; refusal 1, 14 or 15; no room for the next record; fewer bytes left than a record may need, of a tape that goes on.
-pub enum Pause {
-    End,
-    Refused(u8),
-    Full,
-    Short,
-}
 
 // The engine and the cursor before the next record, how many bytes of the output are in use, and what stopped it.
 pub struct Played {
@@ -56,8 +41,9 @@ pub fn run(
     // The stored edits stand beside the engine, so that one place of theirs is written and not the whole map copied. They go back where the engine goes.
     let mut edits = s.edit_map;
     let mut cursor = cursor;
-    let mut samples = apply::silence();
-    let mut left = lines::nothing();
+    // All channels of a tick or block are equal: one row of samples, left once for each channel.
+    let mut mix = [0.0f32; 64];
+    let mut left = record_output::nothing();
     let mut at: usize = 0;
     loop {
         let counts = Counts {
@@ -66,7 +52,7 @@ pub fn run(
             finished: s.past_len,
             let_go: s.let_go,
         };
-        at = lines::leave(form, left, counts, &samples, out, at);
+        at = record_output::leave(form, left, counts, &mix, out, at);
         // "Refusals 1, 14, 15 stop it".
         if left.refusal == 1 {
             s.edit_map = edits;
@@ -77,7 +63,7 @@ pub fn run(
                 pause: Pause::Refused(1),
             };
         }
-        if lines::is_short(whole, tape.len(), cursor.at) {
+        if record_output::is_short(whole, tape.len(), cursor.at) {
             s.edit_map = edits;
             return Played {
                 sequencer: s,
@@ -88,7 +74,7 @@ pub fn run(
         }
         let r = cursor.read(tape);
         let Read::Record { kind, call, next } = r else {
-            let stop = lines::unread(form, r, counts, out, at);
+            let stop = record_output::unread(form, r, counts, out, at);
             let pause = stop.pause;
             s.edit_map = edits;
             return Played {
@@ -98,7 +84,7 @@ pub fn run(
                 pause,
             };
         };
-        if lines::is_full(form, out.len() - at) {
+        if record_output::is_full(form, out.len() - at) {
             s.edit_map = edits;
             return Played {
                 sequencer: s,
@@ -108,8 +94,9 @@ pub fn run(
             };
         }
         let here = cursor;
-        cursor = next;
-        left = lines::silent(kind);
+        cursor.at = next.at;
+        cursor.first = next.first;
+        left = record_output::silent(kind);
         let mode = s.mode;
         let clock = Clock {
             time: s.time,
@@ -225,29 +212,30 @@ pub fn run(
                 let mut i = 0;
                 while plans::within(i, s.active_len) {
                     let event = s.active[i];
-                    if event.end_time <= step.limit {
+                    let ends = event.end_time <= step.limit;
+                    let place = i;
+                    i = plans::after(place, ends);
+                    if ends {
                         // Read again: an event that goes on is then not copied, and its end alone is looked at.
-                        let ended = s.active[i];
+                        let ended = s.active[place];
                         let n = s.active_len - 1;
                         let last = s.active[n];
-                        s.active[i] = last;
+                        s.active[place] = last;
                         let id = s.active_map[n];
-                        s.active_map[i] = id;
+                        s.active_map[place] = id;
                         s.active_len = n;
                         let k = s.past_len;
                         if k < 256 {
                             s.past[k] = ended;
                             s.past_len = k + 1;
                         }
-                    } else {
-                        i = i + 1;
                     }
                 }
                 s.time = step.end;
                 // The samples, in S order. Of an event only its source's place changes.
                 let m = least(s.active_len, 256);
                 let w = mixing::cleared_places(step.size);
-                let mut mix = [0.0f32; 64];
+                runs::set_all(&mut mix[0..w], 0.0);
                 let mut k = 0;
                 while k < m {
                     let event = s.active[k];
@@ -256,10 +244,8 @@ pub fn run(
                     s.active[k].unit.place = unit.place;
                     k = k + 1;
                 }
-                plans::write(step, &mix[0..w], &mut samples);
                 left.channels = step.channels;
                 left.each = step.size;
-                left.stride = step.stride;
             }
             // Edit: "in S, replace end and fade-out. Else, if end < θ, nothing. Else store in E, replacing an earlier edit".
             Plan::Amend(id, edit) => {
@@ -356,7 +342,7 @@ pub fn run(
             // A creation.
             Plan::Create => {
                 s.edit_map = edits;
-                let a = apply::apply(s, call, pool, &mut samples);
+                let a = apply::apply(s, call, pool, &mut mix);
                 left.refusal = a.refusal;
                 s = a.sequencer;
                 edits = s.edit_map;

@@ -25,12 +25,13 @@ use Rattle.tape.specs.Tape.{readAt}
 use Rattle.tape.specs.Fields.{Bytes}
 use Rattle.apply.specs.declared.Applied.{Applied}
 use Rattle.apply.specs.Applying.{appliedTo, appliedOut}
-use Rattle.player.specs.Bytes.{bytesOf, channelsOf}
-use Rattle.player.specs.declared.Form.the-variants.{Bytes as AsBytes}
-use Rattle.player.specs.declared.Pause.the-variants as Pause
-use Rattle.player.specs.Lines.{leaves}
+use Rattle.record_output.specs.Bytes.{bytesOf, channelsOf}
+use Rattle.record_output.specs.declared.Form.the-variants.{Bytes as AsBytes}
+use Rattle.record_output.specs.declared.Pause.the-variants as Pause
+use Rattle.record_output.specs.Lines.{leaves}
 use Rattle.player.specs.Records as Engine
-use Rattle.player.specs.Records.{Ran, Ending, stops, behind, ending, ranFrom, ran, played}
+use Rattle.player.specs.Records.{Ran, stops, behind, ranFrom, ran, played}
+use Rattle.record_output.specs.Endings.{Ending, ending}
 use Rattle.ledger.specs.Calls.{tick, block}
 use Rattle.ledger.specs.Steps.{Outcome, step}
 use Rattle.apply.specs.RecordCalls.{refusalOf}

@@ -48,8 +48,8 @@ use Rattle.apply.specs.Applying as Engine
 use Rattle.apply.specs.Applying.{appliedTo, appliedOut, silentOf, soundingOf, lentTick, lentBlock, ticking, tickingOut, processing, processingOut}
 use Rattle.apply.specs.RecordCalls.{refusalOf, pushCall, editCall}
 use Rattle.tape_extent.specs.Playing.{Played, silent, heard, play}
-use Rattle.plans.specs.Sounding.{length-overlay}
-use Rattle.player.specs.Bytes.{channelsOf}
+use Rattle.record_output.specs.Rows.{length-overlay}
+use Rattle.record_output.specs.Bytes.{channelsOf}
 use Rattle.render.specs.Heard.{step-channels, create-few, channels-front, accepted-size, plays-tick, plays-block}
 
 pub record Follows (s : Sequencer) (l : Ledger) : Type 0 where

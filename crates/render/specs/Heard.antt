@@ -22,8 +22,8 @@ use Rattle.ledger.specs.Ledger.{Ledger, Created, fresh, create}
 use Rattle.ledger.specs.Refusals.{refuses, firstOf, checks, refusal, editEnd, tickEnd, blockEnd}
 use Rattle.ledger.specs.Steps.{Outcome, step, decide, accept, enter, change, advance, setRate, restart}
 use Rattle.tape.specs.declared.reader.Call.the-variants.{Tick, Process}
-use Rattle.plans.specs.Sounding.{length-row}
-use Rattle.player.specs.Bytes.{channelsOf}
+use Rattle.record_output.specs.Rows.{length-row}
+use Rattle.record_output.specs.Bytes.{channelsOf}
 use Rattle.apply.specs.RecordCalls.{refusalOf}
 use Rattle.tape_extent.specs.Playing.{heard, play}
 use Rattle.tape_extent.specs.PacesPlay.{summed, length-summed}

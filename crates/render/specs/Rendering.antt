@@ -12,7 +12,7 @@ use Rattle.tape.specs.declared.reader.Read.{Read}
 use Rattle.tape.specs.declared.reader.Read.the-variants.{Record, Refused, End}
 use Rattle.tape.specs.Tape.{readAt}
 use Rattle.tape.specs.Pool.{trailPool}
-use Rattle.player.specs.Bytes.{bytesOf}
+use Rattle.record_output.specs.Bytes.{bytesOf}
 use Rattle.tape_extent.specs.Playing.{Played, play}
 
 -- the rest of a rendering: from a ledger and a cursor on, with so much room left

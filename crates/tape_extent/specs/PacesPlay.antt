@@ -28,8 +28,8 @@ use Rattle.tape.specs.declared.reader.Call.{Call}
 use Rattle.tape.specs.declared.reader.Call.the-variants.{Create, Push, PushRelative, PushDuration, Edit, EditRelative, Tick, Process, Reset, SetSampleRate}
 use Rattle.tape.specs.declared.reader.PushRecord.{PushRecord}
 use Rattle.tape.specs.declared.reader.EditRecord.{EditRecord}
-use Rattle.plans.specs.Sounding.{length-overlay}
-use Rattle.player.specs.Bytes.{bytesOf, length-bytes, channelsOf, length-channels}
+use Rattle.record_output.specs.Rows.{length-overlay}
+use Rattle.record_output.specs.Bytes.{bytesOf, length-bytes, channelsOf, length-channels}
 use Rattle.tape_extent.specs.declared.Pace.{Pace}
 use Rattle.tape_extent.specs.declared.Paced.{Paced}
 use Rattle.apply.specs.RecordCalls.{refusalOf, pushCall, editCall}

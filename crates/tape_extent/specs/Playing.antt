@@ -14,7 +14,7 @@ use Rattle.ledger.specs.Steps.{Outcome, step}
 use Rattle.tape.specs.declared.reader.Call.{Call}
 use Rattle.tape.specs.declared.reader.Call.the-variants.{Create, Push, PushRelative, PushDuration, Edit, EditRelative, Tick, Process, Reset, SetSampleRate}
 use Rattle.apply.specs.RecordCalls.{refusalOf, pushCall, editCall}
-use Rattle.player.specs.Bytes.{channelsOf}
+use Rattle.record_output.specs.Bytes.{channelsOf}
 
 -- the ledger after a record, the refusal or 0, and the samples of an accepted tick or block, channel after channel
 pub record Played : Type 0 where

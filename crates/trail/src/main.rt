@@ -2,8 +2,8 @@
 // A failed read counts as the tape's end; a failed write ends the listing. Both are said on standard error.
 mod say;
 
-use player::Form;
-use player::Pause;
+use record_output::Form;
+use record_output::Pause;
 use tape::reader::Cursor;
 
 // Writes the first `used` bytes of the text; false where they were not written.

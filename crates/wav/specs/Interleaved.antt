@@ -11,7 +11,7 @@ use lib.IntN.{pos}
 use lib.ListN.{length, getD, take, drop, length-append, length-drop, List·getD-append}
 use lib.Seq.{length-take-le, drop-at, getD-drop, getD-take}
 use Rattle.little_endian.specs.Samples.{bytesOf, length-bytes, bytes-append}
-use Rattle.player.specs.Bytes.{channelsOf}
+use Rattle.record_output.specs.Bytes.{channelsOf}
 use Rattle.wav.specs.Frames.{frameAt, framesFrom, dataBytes}
 
 -- ---- by place: in a frame, channel k's sample is that of place j of the channel, which begins at k * w

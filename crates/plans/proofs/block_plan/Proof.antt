@@ -18,7 +18,7 @@ unfolding blockPlan
 returns-2 c =
     let d = c .before .before .before .before in
     rw (← d .before .before .least .ensures, ← d .before .process-refusal .ensures, eq-eqb _ _ (d .if1 .left))
-    (c .step-plan .ensures ∙ ap (λ (x : Float). stepPlan (d .before .before .before .args .room) (stepOf false (d .before .before .before .args .size) (d .before .before .least .result) 64 (d .before .before .before .args .clock .time +ᵈ d .before .before .before .args .clock .duration ×ᵈ x) (d .before .before .before .args .clock)))
+    (c .step-plan .ensures ∙ ap (λ (x : Float). stepPlan (d .before .before .before .args .room) (stepOf false (d .before .before .before .args .size) (d .before .before .least .result) (d .before .before .before .args .clock .time +ᵈ d .before .before .before .args .clock .duration ×ᵈ x) (d .before .before .before .args .clock)))
     (c .before .before .before .nearest-u64-to-f64 .ensures ∙ sym (whole-is (d .before .before .before .args .size))))
 
 pub block-plan-spec : {M : Type 1} → statement M

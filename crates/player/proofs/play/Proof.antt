@@ -5,7 +5,7 @@ use mathlib.Core.List.{List, _++_}
 use Prim.Native.Nat.{ℕ}
 use lib.ListN.{length, drop}
 use Rattle.sequencer.specs.declared.Sequencer.{Sequencer}
-use Rattle.player.specs.declared.Form.the-variants.{Bytes}
+use Rattle.record_output.specs.declared.Form.the-variants.{Bytes}
 use Rattle.player.specs.declared.Played.{Played}
 use Rattle.player.specs.Records.{ran}
 use borrow.Author.Needs.{needs}
