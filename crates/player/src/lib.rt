@@ -214,8 +214,9 @@ pub fn run(
                     let event = s.active[i];
                     let ends = event.end_time <= step.limit;
                     let place = i;
-                    i = plans::after(place, ends);
+                    // The next place is found in each arm: before them it would be an addition that every event waits for.
                     if ends {
+                        i = plans::after(place, ends);
                         // Read again: an event that goes on is then not copied, and its end alone is looked at.
                         let ended = s.active[place];
                         let n = s.active_len - 1;
@@ -229,6 +230,8 @@ pub fn run(
                             s.past[k] = ended;
                             s.past_len = k + 1;
                         }
+                    } else {
+                        i = plans::after(i, ends);
                     }
                 }
                 s.time = step.end;

@@ -533,32 +533,32 @@ element-set-from-id-3 c =
 loop7-less : tie.Need-loop7-less Inv-loop2 μ-loop2 Inv-loop4 μ-loop4 Inv-loop5 μ-loop5 Inv-loop6 μ-loop6 Inv-loop3 μ-loop3 Inv-loop7 μ-loop7 Inv-loop8 μ-loop8 Inv-loop9 μ-loop9 Inv-loop10 μ-loop10 Inv-loop12 μ-loop12 Inv-loop11 μ-loop11 Inv-loop13 μ-loop13 Inv-loop μ-loop
 loop7-less c =
     let h = inside (c .before .before .before .before .before .before .before .before .before) in
-    let e = after-same (c .before .before .before .before .before .before .before .before .before .before .before .loop7 .i) (c .before .before .before .before .before .after .ensures) (c .before .before .before .before .if11 .taken) in omega arith
+    let e = after-same (c .before .before .before .before .before .before .before .before .before .before .before .loop7 .i) (c .before .before .before .before .after .ensures) (c .before .before .before .before .before .if11 .taken) in omega arith
 
 loop7-again : tie.Need-loop7-again Inv-loop2 μ-loop2 Inv-loop4 μ-loop4 Inv-loop5 μ-loop5 Inv-loop6 μ-loop6 Inv-loop3 μ-loop3 Inv-loop7 μ-loop7 Inv-loop8 μ-loop8 Inv-loop9 μ-loop9 Inv-loop10 μ-loop10 Inv-loop12 μ-loop12 Inv-loop11 μ-loop11 Inv-loop13 μ-loop13 Inv-loop μ-loop
 loop7-again c =
     let h = inside (c .before .before .before .before .before .before .before .before .before) in
-    ended-room (c .before .before .before .before .before .before .before .before .before .before .before .before .before .before .before .before .before .before .before .plan4 .given .0 .0 .limit) (withEdits (c .before .before .before .before .before .before .before .before .before .before .before .loop7 .s) (c .before .before .before .before .before .before .before .before .before .before .before .before .before .before .before .loop3 .edits)) (c .before .before .before .before .before .before .before .before .before .before .before .loop7 .i) _ (c .before .before .before .before .before .after .ensures) (h .0) (h .1) (c .before .before .before .before .if11 .taken) (c .if12 .taken) (c .before .before .before .before .before .before .before .before .before .before .before .loop7 .inv)
+    ended-room (c .before .before .before .before .before .before .before .before .before .before .before .before .before .before .before .before .before .before .before .plan4 .given .0 .0 .limit) (withEdits (c .before .before .before .before .before .before .before .before .before .before .before .loop7 .s) (c .before .before .before .before .before .before .before .before .before .before .before .before .before .before .before .loop3 .edits)) (c .before .before .before .before .before .before .before .before .before .before .before .loop7 .i) _ (c .before .before .before .before .after .ensures) (h .0) (h .1) (c .before .before .before .before .before .if11 .taken) (c .if12 .taken) (c .before .before .before .before .before .before .before .before .before .before .before .loop7 .inv)
 
 loop7-less-2 : tie.Need-loop7-less-2 Inv-loop2 μ-loop2 Inv-loop4 μ-loop4 Inv-loop5 μ-loop5 Inv-loop6 μ-loop6 Inv-loop3 μ-loop3 Inv-loop7 μ-loop7 Inv-loop8 μ-loop8 Inv-loop9 μ-loop9 Inv-loop10 μ-loop10 Inv-loop12 μ-loop12 Inv-loop11 μ-loop11 Inv-loop13 μ-loop13 Inv-loop μ-loop
 loop7-less-2 c =
     let h = inside (c .before .before .before .before .before .before .before .before .before) in
-    let e = after-same (c .before .before .before .before .before .before .before .before .before .before .before .loop7 .i) (c .before .before .before .before .before .after .ensures) (c .before .before .before .before .if11 .taken) in omega arith
+    let e = after-same (c .before .before .before .before .before .before .before .before .before .before .before .loop7 .i) (c .before .before .before .before .after .ensures) (c .before .before .before .before .before .if11 .taken) in omega arith
 
 loop7-again-2 : tie.Need-loop7-again-2 Inv-loop2 μ-loop2 Inv-loop4 μ-loop4 Inv-loop5 μ-loop5 Inv-loop6 μ-loop6 Inv-loop3 μ-loop3 Inv-loop7 μ-loop7 Inv-loop8 μ-loop8 Inv-loop9 μ-loop9 Inv-loop10 μ-loop10 Inv-loop12 μ-loop12 Inv-loop11 μ-loop11 Inv-loop13 μ-loop13 Inv-loop μ-loop
 loop7-again-2 c =
     let h = inside (c .before .before .before .before .before .before .before .before .before) in
-    ended-full (c .before .before .before .before .before .before .before .before .before .before .before .before .before .before .before .before .before .before .before .plan4 .given .0 .0 .limit) (withEdits (c .before .before .before .before .before .before .before .before .before .before .before .loop7 .s) (c .before .before .before .before .before .before .before .before .before .before .before .before .before .before .before .loop3 .edits)) (c .before .before .before .before .before .before .before .before .before .before .before .loop7 .i) _ (c .before .before .before .before .before .after .ensures) (h .0) (h .1) (c .before .before .before .before .if11 .taken) (c .if12 .left) (c .before .before .before .before .before .before .before .before .before .before .before .loop7 .inv)
+    ended-full (c .before .before .before .before .before .before .before .before .before .before .before .before .before .before .before .before .before .before .before .plan4 .given .0 .0 .limit) (withEdits (c .before .before .before .before .before .before .before .before .before .before .before .loop7 .s) (c .before .before .before .before .before .before .before .before .before .before .before .before .before .before .before .loop3 .edits)) (c .before .before .before .before .before .before .before .before .before .before .before .loop7 .i) _ (c .before .before .before .before .after .ensures) (h .0) (h .1) (c .before .before .before .before .before .if11 .taken) (c .if12 .left) (c .before .before .before .before .before .before .before .before .before .before .before .loop7 .inv)
 
 loop7-less-3 : tie.Need-loop7-less-3 Inv-loop2 μ-loop2 Inv-loop4 μ-loop4 Inv-loop5 μ-loop5 Inv-loop6 μ-loop6 Inv-loop3 μ-loop3 Inv-loop7 μ-loop7 Inv-loop8 μ-loop8 Inv-loop9 μ-loop9 Inv-loop10 μ-loop10 Inv-loop12 μ-loop12 Inv-loop11 μ-loop11 Inv-loop13 μ-loop13 Inv-loop μ-loop
 loop7-less-3 c =
     let h = inside (c .before .before .before .before .before) in
-    let e = after-next (c .before .before .before .before .before .before .before .loop7 .i) (c .before .after .ensures) (c .if11 .left) (omega (arith, h .0, h .1)) in omega arith
+    let e = after-next (c .before .before .before .before .before .before .before .loop7 .i) (c .after2 .ensures) (c .before .if11 .left) (omega (arith, h .0, h .1)) in omega arith
 
 loop7-again-3 : tie.Need-loop7-again-3 Inv-loop2 μ-loop2 Inv-loop4 μ-loop4 Inv-loop5 μ-loop5 Inv-loop6 μ-loop6 Inv-loop3 μ-loop3 Inv-loop7 μ-loop7 Inv-loop8 μ-loop8 Inv-loop9 μ-loop9 Inv-loop10 μ-loop10 Inv-loop12 μ-loop12 Inv-loop11 μ-loop11 Inv-loop13 μ-loop13 Inv-loop μ-loop
 loop7-again-3 c =
     let h = inside (c .before .before .before .before .before) in
-    not-ended (c .before .before .before .before .before .before .before .before .before .before .before .before .before .before .before .plan4 .given .0 .0 .limit) (withEdits (c .before .before .before .before .before .before .before .loop7 .s) (c .before .before .before .before .before .before .before .before .before .before .before .loop3 .edits)) (c .before .before .before .before .before .before .before .loop7 .i) _ (c .before .after .ensures) (h .0) (h .1) (c .if11 .left) (c .before .before .before .before .before .before .before .loop7 .inv)
+    not-ended (c .before .before .before .before .before .before .before .before .before .before .before .before .before .before .before .plan4 .given .0 .0 .limit) (withEdits (c .before .before .before .before .before .before .before .loop7 .s) (c .before .before .before .before .before .before .before .before .before .before .before .loop3 .edits)) (c .before .before .before .before .before .before .before .loop7 .i) _ (c .after2 .ensures) (h .0) (h .1) (c .before .if11 .left) (c .before .before .before .before .before .before .before .loop7 .inv)
 
 loop8-holds : tie.Need-loop8-holds Inv-loop2 μ-loop2 Inv-loop4 μ-loop4 Inv-loop5 μ-loop5 Inv-loop6 μ-loop6 Inv-loop3 μ-loop3 Inv-loop7 μ-loop7 Inv-loop8 μ-loop8 Inv-loop9 μ-loop9 Inv-loop10 μ-loop10 Inv-loop12 μ-loop12 Inv-loop11 μ-loop11 Inv-loop13 μ-loop13 Inv-loop μ-loop
 unfolding ofBits
@@ -1131,7 +1131,7 @@ run-spec =
     element-set-from-event-3 mul-id-2 element-set-from-id-2 add-s-3 loop3-less loop3-again loop3-less-2 loop3-again-2 loop7-holds
     (λ c κs. search needs) mul-event-4 element-copy-out-event (λ c κs. search needs) mul-ended element-copy-out-ended sub-n mul-last-3
     element-copy-out-last-2 mul-last-4 element-set-from-last-2 mul-id-3 element-copy-out-id mul-id-4 element-set-from-id-3 mul-ended-2
-    element-set-from-ended add-s-4 loop7-less loop7-again loop7-less-2 loop7-again-2 loop7-less-3 loop7-again-3 (λ c κs. search needs)
+    element-set-from-ended add-s-4 loop7-less loop7-again loop7-less-2 loop7-again-2 (λ c κs. search needs) loop7-less-3 loop7-again-3 (λ c κs. search needs)
     (λ c κs. search needs) sub-set-all part-mix-start part-mix-end (λ c κs. search needs) loop8-holds mul-event-5 element-copy-out-event-2
     sub-sound part-mix-start-2 part-mix-end-2 (λ c κs. search needs) mul-s way-write-given-s mul-s-2 way-write-given-s-2 add-k loop8-less
     loop8-again loop-less-4 loop-again-4 (λ c. search needs) (λ c. search needs) loop9-holds mul-x element-copy-out-x add-i loop9-less
