@@ -36,7 +36,7 @@ use Rattle.sequencer.specs.Parts.{withReady, withActive, withPast, withEdits, w
 use Rattle.sequencer.specs.Moves.{pushedReady, poppedReady, pushedActive, readyToActive, activeToPast, allToReady}
 use Rattle.sequencer.specs.Edits.{indexOf, changedBy, changed}
 use Rattle.sequencer.specs.Resets.{rewinds, emptiedLists, resetBy, resets}
-use Rattle.sequencer.specs.Turns.{Activating, activated-none, activated-beyond, activated-late, Taking, taking-missing, taking-stored, Finishing, finishing-on, finishing-room, finishing-full, finished-end, finished-beyond}
+use Rattle.sequencer.specs.Turns.{Activating, activated-none, activated-beyond, activated-late, Taking, taking-missing, taking-stored, Finishing, finishing-on, finishing-room, finishing-full, filledByLast, finished-end, finished-beyond}
 use Rattle.sequencer.specs.Steady.{Passing, passing-on}
 use Rattle.plans.specs.declared.Step.{Step}
 use Rattle.plans.specs.declared.Requeue.{Requeue}
@@ -178,12 +178,6 @@ after-same i {b} {k} e h = sym (e ∙ ap (afterPlace i) h)
 
 pub after-next : (i : ℕ) {b : Bool} {k : ℕ} → k ≡ afterPlace i b → b ≡ false → i < 256 → i + 1 ≡ k
 after-next i {b} {k} e h l = let z : (i + 1) % 2 ^ 64 ≡ i + 1 = omega arith in sym (e ∙ ap (afterPlace i) h ∙ z)
-
--- the last of the sounding fills place i
-abbrev filledByLast : Sequencer → (i : ℕ) → Sequencer
-filledByLast s i =
-    let n = s .«active_len» - 1 in
-    withActive s (set (s .active) i (getD (s .active) n blank)) (set (s .«active_map») i (getD (s .«active_map») n noId)) n
 
 module _ (limit : Float) (s : Sequencer) (i : ℕ) (r : Sequencer) {k : ℕ} (e : k ≡ afterPlace i (le (getD (s .active) i blank .«end_time») limit)) (p : i < s .«active_len») (q : s .«active_len» ≤ 256) where
   pub ended-room : le (getD (s .active) i blank .«end_time») limit ≡ true → s .«past_len» < 256 → Finishing limit s i r

@@ -165,7 +165,7 @@ finished-len : (s : Sequencer) (i : ℕ) (e : Event) → i < s .«active_len» �
 finished-len s i e p q = pushed-past-len (swapRemoved s i) e ∙ swap-removed-len s i p q
 
 -- the last fills place i of the sounding list and of its index
-abbrev filledByLast : Sequencer → (i : ℕ) → Sequencer
+abbrev pub filledByLast : Sequencer → (i : ℕ) → Sequencer
 filledByLast s i =
     let n = s .«active_len» - 1 in
     withActive s (set (s .active) i (getD (s .active) n blank)) (set (s .«active_map») i (getD (s .«active_map») n noId)) n
