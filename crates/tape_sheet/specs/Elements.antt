@@ -7,22 +7,22 @@ use Rattle.sequencer.specs.declared.Answer.{Answer}
 use Rattle.listing.specs.Ascii.{ascii}
 use Rattle.listing.specs.Text.{decimal}
 use Rattle.chart.specs.Scale.{xOf, breadthOf, laneOf, lanesEnd, waveOf, heightOf}
-use Rattle.tape_words.specs.Words.{timeText, peakText, refusalText, sumText, callText, answerText}
+use Rattle.tape_words.specs.Words.{byPlace, timeText, peakText, refusalText, sumText, callText, callAt, answerText}
 
--- a standing's class in the style: 0 waiting, 1 sounding, 2 finished, 3 let go
+-- a standing's class in the style
 unfoldable pub classText : (place : ℕ) → List ℕ
-classText place = cond (eqb place 0) (ascii "w") (cond (eqb place 1) (ascii "s") (cond (eqb place 2) (ascii "f") (ascii "g")))
+classText place = byPlace place (ascii "w") (ascii "s") (ascii "f") (ascii "g")
 
 -- a standing in words
 unfoldable pub nameText : (place : ℕ) → List ℕ
-nameText place = cond (eqb place 0) (ascii "waiting") (cond (eqb place 1) (ascii "sounding") (cond (eqb place 2) (ascii "finished") (ascii "let go")))
+nameText place = byPlace place (ascii "waiting") (ascii "sounding") (ascii "finished") (ascii "let go")
 
 -- how far below the lane's top a standing is drawn, and how high: each has a height of its own, so that it is told in grey too
 unfoldable pub insetOf : (place : ℕ) → ℕ
-insetOf place = cond (eqb place 0) 8 (cond (eqb place 1) 5 (cond (eqb place 2) 7 9))
+insetOf place = byPlace place 8 5 7 9
 
 unfoldable pub thicknessOf : (place : ℕ) → ℕ
-thicknessOf place = cond (eqb place 0) 4 (cond (eqb place 1) 10 (cond (eqb place 2) 6 2))
+thicknessOf place = byPlace place 4 10 6 2
 
 -- name="n"
 unfoldable pub attribute : (name : List ℕ) → (n : ℕ) → List (List ℕ)
@@ -39,6 +39,13 @@ unfolding attribute
 openBox class x y width height =
     ascii "<rect class=\"" ∷ class ∷ ascii "\"" ∷ (attribute (ascii "x") x ++ (attribute (ascii "y") y ++ (attribute (ascii "width") width
     ++ (attribute (ascii "height") height ++ (ascii ">" ∷ [])))))
+
+-- a standing's box in a lane that begins at top, up to its last attribute
+unfoldable pub standing : (place x top width : ℕ) → List (List ℕ)
+unfolding classText attribute insetOf thicknessOf
+standing place x top width =
+    ascii "<rect class=\"" ∷ classText place ∷ ascii "\"" ∷ (attribute (ascii "x") x ++ (attribute (ascii "y") (top + insetOf place) ++ (attribute (ascii "width") width
+    ++ attribute (ascii "height") (thicknessOf place))))
 
 -- seconds as hours, minutes and seconds
 unfoldable pub clockText : (s : ℕ) → List (List ℕ)
@@ -58,24 +65,19 @@ axisMark time total step top height =
 
 -- a clip's standing from a time to another; where no time passes nothing is drawn
 unfoldable pub segment : (total first clip place from until : ℕ) → List (List ℕ)
-unfolding classText attribute nameText timeText insetOf thicknessOf
+unfolding standing nameText timeText
 segment total first clip place from until =
-    cond (eqb from until) [] (ascii "<rect class=\"" ∷ classText place ∷ ascii "\"" ∷ (attribute (ascii "x") (xOf from total)
-    ++ (attribute (ascii "y") (laneOf (clip - first) + insetOf place) ++ (attribute (ascii "width") (breadthOf from until total)
-    ++ (attribute (ascii "height") (thicknessOf place) ++ (ascii "><title>clip " ∷ decimal clip ∷ ascii ": " ∷ nameText place ∷ ascii " from " ∷ (timeText from
-    ++ (ascii " to " ∷ (timeText until ++ (ascii "</title></rect>\n" ∷ []))))))))))
+    cond (eqb from until) [] (standing place (xOf from total) (laneOf (clip - first)) (breadthOf from until total) ++ (ascii "><title>clip " ∷ decimal clip ∷ ascii ": "
+    ∷ nameText place ∷ ascii " from " ∷ (timeText from ++ (ascii " to " ∷ (timeText until ++ (ascii "</title></rect>\n" ∷ []))))))
 
--- where a push lays its clip
-unfoldable pub entryText : (place : ℕ) → List ℕ
-entryText place = cond (eqb place 1) (ascii ", straight to sounding") (ascii ", waits")
-
--- a lane's line, its number, and a mark where the clip was laid
+-- a lane's line, its number, and a mark where the clip was laid, which says where the push laid it
 unfoldable pub lane : (total first clip place time : ℕ) → List (List ℕ)
-unfolding openText timeText entryText
+unfolding openText timeText
 lane total first clip place time =
     ascii "<path class=\"l\" d=\"M170 " ∷ decimal (laneOf (clip - first) + 10) ∷ ascii "h1400\"/>" ∷ (openText (ascii "n") 162 (laneOf (clip - first) + 14)
     ++ (decimal clip ∷ ascii "</text><path class=\"p\" d=\"M" ∷ decimal (xOf time total - 6) ∷ ascii " " ∷ decimal (laneOf (clip - first) + 5)
-    ∷ ascii "l6 5l-6 5z\"><title>clip " ∷ decimal clip ∷ ascii " laid at " ∷ (timeText time ++ (entryText place ∷ ascii "</title></path>\n" ∷ []))))
+    ∷ ascii "l6 5l-6 5z\"><title>clip " ∷ decimal clip ∷ ascii " laid at " ∷ (timeText time ++ (cond (eqb place 1) (ascii ", straight to sounding") (ascii ", waits")
+    ∷ ascii "</title></path>\n" ∷ []))))
 
 -- a mark of the strip, in one of eight rows, opened
 unfoldable pub openMark : (class : List ℕ) → (total time row : ℕ) → List (List ℕ)
@@ -84,31 +86,35 @@ openMark class total time row = ascii "<g>" ∷ (openBox class (xOf time total) 
 
 -- a refused call, by its number
 unfoldable pub refused : (total row kind clip refusal time : ℕ) → List (List ℕ)
-unfolding openMark callText timeText refusalText
+unfolding openMark callAt refusalText
 refused total row kind clip refusal time =
-    openMark (ascii "r") total time row ++ (decimal refusal ∷ ascii "</text><title>" ∷ (callText kind clip ++ (ascii " at " ∷ (timeText time ++ (ascii ": "
-    ∷ (refusalText refusal ++ (ascii "</title></g>\n" ∷ [])))))))
+    openMark (ascii "r") total time row ++ (decimal refusal ∷ ascii "</text><title>" ∷ (callAt kind clip time ++ (ascii ": " ∷ (refusalText refusal
+    ++ (ascii "</title></g>\n" ∷ [])))))
+
+-- an edit's call, and what became of it
+unfoldable pub editTitle : (kind clip : ℕ) → (told : Answer) → (time : ℕ) → List (List ℕ)
+unfolding callAt answerText
+editTitle kind clip told time = callAt kind clip time ++ (ascii ": " ∷ answerText told)
 
 -- an edit, in the strip
 unfoldable pub edited : (total row kind clip : ℕ) → (told : Answer) → (time : ℕ) → List (List ℕ)
-unfolding openMark callText timeText answerText
+unfolding openMark editTitle
 edited total row kind clip told time =
-    openMark (ascii "e") total time row ++ (ascii "edit</text><title>" ∷ (callText kind clip ++ (ascii " at " ∷ (timeText time ++ (ascii ": " ∷ (answerText told
-    ++ (ascii "</title></g>\n" ∷ [])))))))
+    openMark (ascii "e") total time row ++ (ascii "edit</text><title>" ∷ (editTitle kind clip told time ++ (ascii "</title></g>\n" ∷ [])))
 
 -- an edit, on its clip's lane
 unfoldable pub editedLane : (total first kind clip : ℕ) → (told : Answer) → (time : ℕ) → List (List ℕ)
-unfolding callText timeText answerText
+unfolding editTitle
 editedLane total first kind clip told time =
-    ascii "<path class=\"d\" d=\"M" ∷ decimal (xOf time total) ∷ ascii " " ∷ decimal (laneOf (clip - first) + 5) ∷ ascii "l-4 -5h8z\"><title>" ∷ (callText kind clip
-    ++ (ascii " at " ∷ (timeText time ++ (ascii ": " ∷ (answerText told ++ (ascii "</title></path>\n" ∷ []))))))
+    ascii "<path class=\"d\" d=\"M" ∷ decimal (xOf time total) ∷ ascii " " ∷ decimal (laneOf (clip - first) + 5) ∷ ascii "l-4 -5h8z\"><title>"
+    ∷ (editTitle kind clip told time ++ (ascii "</title></path>\n" ∷ []))
 
 -- a reset or a rate, in the strip and through the lanes
 unfoldable pub called : (total row lanes kind time : ℕ) → List (List ℕ)
-unfolding openMark callText timeText
+unfolding openMark callText callAt
 called total row lanes kind time =
-    openMark (ascii "c") total time row ++ (callText kind 0 ++ (ascii "</text><title>" ∷ (callText kind 0 ++ (ascii " at " ∷ (timeText time
-    ++ (ascii "</title></g><path class=\"c\" d=\"M" ∷ decimal (xOf time total) ∷ ascii " 176v" ∷ decimal (lanesEnd lanes - 176) ∷ ascii "\"/>\n" ∷ []))))))
+    openMark (ascii "c") total time row ++ (callText kind 0 ++ (ascii "</text><title>" ∷ (callAt kind 0 time ++ (ascii "</title></g><path class=\"c\" d=\"M"
+    ∷ decimal (xOf time total) ∷ ascii " 176v" ∷ decimal (lanesEnd lanes - 176) ∷ ascii "\"/>\n" ∷ []))))
 
 -- a bar about the middle, as high as the peak; none for 0
 unfoldable pub bar : (bits column middle : ℕ) → List (List ℕ)
@@ -127,10 +133,8 @@ wave lanes channel most =
 
 -- a standing of the key
 unfoldable pub swatch : (place x : ℕ) → List (List ℕ)
-unfolding classText attribute openText nameText
-swatch place x =
-    ascii "<rect class=\"" ∷ classText place ∷ ascii "\"" ∷ (attribute (ascii "x") x ++ (attribute (ascii "y") (40 + insetOf place) ++ (attribute (ascii "width") 40
-    ++ (attribute (ascii "height") (thicknessOf place) ++ (ascii "/>" ∷ (openText (ascii "k") (x + 46) 51 ++ (nameText place ∷ ascii "</text>\n" ∷ [])))))))
+unfolding standing openText nameText
+swatch place x = standing place x 40 40 ++ (ascii "/>" ∷ (openText (ascii "k") (x + 46) 51 ++ (nameText place ∷ ascii "</text>\n" ∷ [])))
 
 -- the page's beginning, up to the tape's name
 unfoldable pub page : (lanes channels : ℕ) → List (List ℕ)

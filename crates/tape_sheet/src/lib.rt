@@ -2,12 +2,16 @@
 ghost use mathlib.Core.Path.{_≡_};
 ghost use Prim.Native.Nat.{_-_, _≤_};
 ghost use Rattle.listing.specs.Pieces.{text, add, addAll};
-ghost use Rattle.tape_sheet.specs.Elements.{classText, nameText, insetOf, thicknessOf, attribute, openText, openBox, clockText, axisTime, axisMark, segment, entryText, lane, openMark, refused, edited, editedLane, called, bar, wave, swatch, page, measures, foot, stopText};
+ghost use Rattle.tape_words.specs.Words.{byPlace};
+ghost use Rattle.tape_sheet.specs.Elements.{nameText, attribute, openText, openBox, standing, clockText, axisTime, axisMark, segment, lane, openMark, refused, editTitle, edited, editedLane, called, bar, wave, swatch, page, measures, foot, stopText};
 use listing::pieces::put_bytes;
 use listing::pieces::put_decimal;
 use sequencer::Answer;
 use tape_words::put_answer;
+use tape_words::put_by_place;
 use tape_words::put_call;
+use tape_words::put_call_at;
+use tape_words::put_either;
 use tape_words::put_peak;
 use tape_words::put_refusal;
 use tape_words::put_sum;
@@ -20,52 +24,31 @@ fn less(a: u64, b: u64) -> u64
     if a < b { 0 } else { a - b }
 }
 
-// A standing's class in the style: 0 waiting, 1 sounding, 2 finished, 3 let go.
-fn put_class(place: u64, out: &mut [u8], at: usize) -> usize
-    ensures { λ r. ⌜ text (now (out .exit)) r ≡ add (classText place) (text (now (out .entry)) at) ⌝ }
+// One of four numbers, by where a clip stands: 0 waiting, 1 sounding, 2 finished, 3 let go.
+fn by_place(place: u64, waiting: u64, sounding: u64, finished: u64, let_go: u64) -> u64
+    ensures { λ r. ⌜ r ≡ byPlace place waiting sounding finished «let_go» ⌝ }
 {
     match place {
-        0 => put_bytes(b"w", out, at),
-        1 => put_bytes(b"s", out, at),
-        2 => put_bytes(b"f", out, at),
-        _ => put_bytes(b"g", out, at),
+        0 => waiting,
+        1 => sounding,
+        2 => finished,
+        _ => let_go,
     }
 }
 
+// A standing in words.
 fn put_name(place: u64, out: &mut [u8], at: usize) -> usize
     ensures { λ r. ⌜ text (now (out .exit)) r ≡ add (nameText place) (text (now (out .entry)) at) ⌝ }
 {
-    match place {
-        0 => put_bytes(b"waiting", out, at),
-        1 => put_bytes(b"sounding", out, at),
-        2 => put_bytes(b"finished", out, at),
-        _ => put_bytes(b"let go", out, at),
-    }
-}
-
-// How far below the lane's top a standing is drawn, and how high: each has a height of its own, so that it is told in grey too.
-fn inset(place: u64) -> u64
-    ensures { λ r. ⌜ r ≡ insetOf place ⌝ }
-    ensures { λ r. ⌜ r ≤ 9 ⌝ }
-{
-    match place {
-        0 => 8,
-        1 => 5,
-        2 => 7,
-        _ => 9,
-    }
-}
-
-fn thickness(place: u64) -> u64
-    ensures { λ r. ⌜ r ≡ thicknessOf place ⌝ }
-    ensures { λ r. ⌜ r ≤ 10 ⌝ }
-{
-    match place {
-        0 => 4,
-        1 => 10,
-        2 => 6,
-        _ => 2,
-    }
+    put_by_place(
+        place,
+        b"waiting",
+        b"sounding",
+        b"finished",
+        b"let go",
+        out,
+        at,
+    )
 }
 
 // name="n"
@@ -79,6 +62,7 @@ fn put_attribute(name: &[u8], n: u64, out: &mut [u8], at: usize) -> usize
     put_bytes(b"\"", out, to)
 }
 
+// A text of a class at a place, opened.
 fn put_open_text(class: &[u8], x: u64, y: u64, out: &mut [u8], at: usize) -> usize
     ensures { λ r. ⌜ text (now (out .exit)) r ≡ addAll (openText (now (class .entry)) x y) (text (now (out .entry)) at) ⌝ }
 {
@@ -90,6 +74,7 @@ fn put_open_text(class: &[u8], x: u64, y: u64, out: &mut [u8], at: usize) -> usi
     put_bytes(b">", out, to)
 }
 
+// A box of a class, opened.
 fn put_open_box(
     class: &[u8],
     x: u64,
@@ -111,6 +96,23 @@ fn put_open_box(
     put_bytes(b">", out, to)
 }
 
+// A standing's box below `top`, up to its last attribute: each standing has a class in the style, and a height of its own, so that it is told in grey too.
+fn put_standing(place: u64, x: u64, top: u64, width: u64, out: &mut [u8], at: usize) -> usize
+    requires { ⌜ top ≤ 35_184_372_088_832 ⌝ }
+    ensures { λ r. ⌜ text (now (out .exit)) r ≡ addAll (standing place x top width) (text (now (out .entry)) at) ⌝ }
+{
+    let inset = by_place(place, 8, 5, 7, 9);
+    let height = by_place(place, 4, 10, 6, 2);
+    let to = put_bytes(b"<rect class=\"", out, at);
+    let to = put_by_place(place, b"w", b"s", b"f", b"g", out, to);
+    let to = put_bytes(b"\"", out, to);
+    let to = put_attribute(b"x", x, out, to);
+    let to = put_attribute(b"y", top + inset, out, to);
+    let to = put_attribute(b"width", width, out, to);
+    put_attribute(b"height", height, out, to)
+}
+
+// Seconds as hours, minutes and seconds.
 fn put_clock(s: u64, out: &mut [u8], at: usize) -> usize
     ensures { λ r. ⌜ text (now (out .exit)) r ≡ addAll (clockText s) (text (now (out .entry)) at) ⌝ }
 {
@@ -178,16 +180,8 @@ pub fn put_segment(
     let i = less(clip, first);
     let x = chart::x(from, total);
     let y = chart::lane(i);
-    let inset = inset(place);
     let width = chart::breadth(from, until, total);
-    let height = thickness(place);
-    let to = put_bytes(b"<rect class=\"", out, at);
-    let to = put_class(place, out, to);
-    let to = put_bytes(b"\"", out, to);
-    let to = put_attribute(b"x", x, out, to);
-    let to = put_attribute(b"y", y + inset, out, to);
-    let to = put_attribute(b"width", width, out, to);
-    let to = put_attribute(b"height", height, out, to);
+    let to = put_standing(place, x, y, width, out, at);
     let to = put_bytes(b"><title>clip ", out, to);
     let to = put_decimal(clip, out, to);
     let to = put_bytes(b": ", out, to);
@@ -197,15 +191,6 @@ pub fn put_segment(
     let to = put_bytes(b" to ", out, to);
     let to = put_time(until, out, to);
     put_bytes(b"</title></rect>\n", out, to)
-}
-
-fn put_entry(place: u64, out: &mut [u8], at: usize) -> usize
-    ensures { λ r. ⌜ text (now (out .exit)) r ≡ add (entryText place) (text (now (out .entry)) at) ⌝ }
-{
-    if place == 1 {
-        return put_bytes(b", straight to sounding", out, at);
-    }
-    put_bytes(b", waits", out, at)
 }
 
 // A lane's line, its number, and a mark where the clip was laid.
@@ -236,10 +221,11 @@ pub fn put_lane(
     let to = put_decimal(clip, out, to);
     let to = put_bytes(b" laid at ", out, to);
     let to = put_time(time, out, to);
-    let to = put_entry(place, out, to);
+    let to = put_either(place == 1, b", straight to sounding", b", waits", out, to);
     put_bytes(b"</title></path>\n", out, to)
 }
 
+// A mark of the strip, in one of eight rows, opened.
 fn put_open_mark(class: &[u8], total: u64, time: u64, row: u64, out: &mut [u8], at: usize) -> usize
     ensures { λ r. ⌜ text (now (out .exit)) r ≡ addAll (openMark (now (class .entry)) total time row) (text (now (out .entry)) at) ⌝ }
 {
@@ -266,12 +252,19 @@ pub fn put_refused(
     let to = put_open_mark(b"r", total, time, row, out, at);
     let to = put_decimal(refusal, out, to);
     let to = put_bytes(b"</text><title>", out, to);
-    let to = put_call(kind, clip, out, to);
-    let to = put_bytes(b" at ", out, to);
-    let to = put_time(time, out, to);
+    let to = put_call_at(kind, clip, time, out, to);
     let to = put_bytes(b": ", out, to);
     let to = put_refusal(refusal, out, to);
     put_bytes(b"</title></g>\n", out, to)
+}
+
+// An edit's call, and what became of it.
+fn put_edit_title(kind: u8, clip: u64, told: Answer, time: u64, out: &mut [u8], at: usize) -> usize
+    ensures { λ r. ⌜ text (now (out .exit)) r ≡ addAll (editTitle kind clip told time) (text (now (out .entry)) at) ⌝ }
+{
+    let to = put_call_at(kind, clip, time, out, at);
+    let to = put_bytes(b": ", out, to);
+    put_answer(told, out, to)
 }
 
 // An edit, in the strip.
@@ -289,11 +282,7 @@ pub fn put_edited(
 {
     let to = put_open_mark(b"e", total, time, row, out, at);
     let to = put_bytes(b"edit</text><title>", out, to);
-    let to = put_call(kind, clip, out, to);
-    let to = put_bytes(b" at ", out, to);
-    let to = put_time(time, out, to);
-    let to = put_bytes(b": ", out, to);
-    let to = put_answer(told, out, to);
+    let to = put_edit_title(kind, clip, told, time, out, to);
     put_bytes(b"</title></g>\n", out, to)
 }
 
@@ -318,11 +307,7 @@ pub fn put_edited_lane(
     let to = put_bytes(b" ", out, to);
     let to = put_decimal(y + 5, out, to);
     let to = put_bytes(b"l-4 -5h8z\"><title>", out, to);
-    let to = put_call(kind, clip, out, to);
-    let to = put_bytes(b" at ", out, to);
-    let to = put_time(time, out, to);
-    let to = put_bytes(b": ", out, to);
-    let to = put_answer(told, out, to);
+    let to = put_edit_title(kind, clip, told, time, out, to);
     put_bytes(b"</title></path>\n", out, to)
 }
 
@@ -343,9 +328,7 @@ pub fn put_called(
     let to = put_open_mark(b"c", total, time, row, out, at);
     let to = put_call(kind, 0, out, to);
     let to = put_bytes(b"</text><title>", out, to);
-    let to = put_call(kind, 0, out, to);
-    let to = put_bytes(b" at ", out, to);
-    let to = put_time(time, out, to);
+    let to = put_call_at(kind, 0, time, out, to);
     let to = put_bytes(b"</title></g><path class=\"c\" d=\"M", out, to);
     let to = put_decimal(x, out, to);
     let to = put_bytes(b" 176v", out, to);
@@ -397,15 +380,7 @@ pub fn put_wave(lanes: u64, channel: u32, most: u32, out: &mut [u8], at: usize) 
 pub fn put_swatch(place: u64, x: u32, out: &mut [u8], at: usize) -> usize
     ensures { λ r. ⌜ text (now (out .exit)) r ≡ addAll (swatch place x) (text (now (out .entry)) at) ⌝ }
 {
-    let inset = inset(place);
-    let height = thickness(place);
-    let to = put_bytes(b"<rect class=\"", out, at);
-    let to = put_class(place, out, to);
-    let to = put_bytes(b"\"", out, to);
-    let to = put_attribute(b"x", x as u64, out, to);
-    let to = put_attribute(b"y", 40 + inset, out, to);
-    let to = put_attribute(b"width", 40, out, to);
-    let to = put_attribute(b"height", height, out, to);
+    let to = put_standing(place, x as u64, 40, 40, out, at);
     let to = put_bytes(b"/>", out, to);
     let to = put_open_text(b"k", x as u64 + 46, 51, out, to);
     let to = put_name(place, out, to);

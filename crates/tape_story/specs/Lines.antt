@@ -12,11 +12,11 @@ use Rattle.listing.specs.Ascii.{ascii}
 use Rattle.listing.specs.Text.{decimal}
 use Rattle.chart.specs.Scale.{thousandthsOf}
 use Rattle.tape.specs.Tape.{pushKind}
-use Rattle.tape_words.specs.Words.{thousandthsText, timeText, peakText, refusalText, sumText, callText, answerText}
+use Rattle.tape_words.specs.Words.{byPlace, thousandthsText, timeText, peakText, refusalText, sumText, callText, answerText}
 
--- what became of a clip that moved, by where it stands: 0 waiting, 1 sounding, 2 finished, 3 let go
+-- what became of a clip that moved, by where it stands now
 unfoldable pub becomesText : (place : ℕ) → List ℕ
-becomesText place = cond (eqb place 0) (ascii " waits again") (cond (eqb place 1) (ascii " starts") (cond (eqb place 2) (ascii " finishes") (ascii " is let go")))
+becomesText place = byPlace place (ascii " waits again") (ascii " starts") (ascii " finishes") (ascii " is let go")
 
 -- a clip that stands elsewhere than it did; one that stands where it did is not told
 unfoldable pub moveText : (clip was place : ℕ) → List (List ℕ)
@@ -24,12 +24,8 @@ unfolding becomesText
 moveText clip was place = cond (eqb place was) [] (ascii "; clip " ∷ decimal clip ∷ becomesText place ∷ [])
 
 -- where a push lays its clip
-unfoldable pub entryText : (place : ℕ) → List ℕ
-entryText place = cond (eqb place 1) (ascii " goes straight to sounding") (ascii " waits")
-
 unfoldable pub laidText : (clip place : ℕ) → List (List ℕ)
-unfolding entryText
-laidText clip place = ascii ": clip " ∷ decimal clip ∷ entryText place ∷ []
+laidText clip place = ascii ": clip " ∷ decimal clip ∷ cond (eqb place 1) (ascii " goes straight to sounding") (ascii " waits") ∷ []
 
 unfoldable pub modeText : ReplayMode → List ℕ
 modeText All = ascii ", mode All"

@@ -1,33 +1,23 @@
 // A tape in lines: the clock in milliseconds, the call, the clip's number, and what became of it. Each function puts a part of a line, piece by piece, into a lent buffer (crate tape_words).
 ghost use mathlib.Core.Path.{_≡_};
 ghost use Rattle.listing.specs.Pieces.{text, add, addAll};
-ghost use Rattle.tape_story.specs.Lines.{becomesText, moveText, entryText, laidText, modeText, createdText, editedText, rateText, outcomeText, quietText, refusedText, beginText, samplesText, heardText, stopText, endText};
+ghost use Rattle.tape_story.specs.Lines.{moveText, laidText, modeText, createdText, editedText, rateText, outcomeText, quietText, refusedText, beginText, samplesText, heardText, stopText, endText};
 use event::ReplayMode;
 use listing::pieces::put_bytes;
 use listing::pieces::put_decimal;
 use sequencer::Answer;
 use sequencer::Sequencer;
 use tape_words::put_answer;
+use tape_words::put_by_place;
 use tape_words::put_call;
+use tape_words::put_either;
 use tape_words::put_peak;
 use tape_words::put_refusal;
 use tape_words::put_sum;
 use tape_words::put_thousandths;
 use tape_words::put_time;
 
-// What became of a clip that moved, by where it stands (0 waiting, 1 sounding, 2 finished, 3 let go).
-fn put_becomes(place: u64, out: &mut [u8], at: usize) -> usize
-    ensures { λ r. ⌜ text (now (out .exit)) r ≡ add (becomesText place) (text (now (out .entry)) at) ⌝ }
-{
-    match place {
-        0 => put_bytes(b" waits again", out, at),
-        1 => put_bytes(b" starts", out, at),
-        2 => put_bytes(b" finishes", out, at),
-        _ => put_bytes(b" is let go", out, at),
-    }
-}
-
-// A clip that stands elsewhere than it did.
+// What became of a clip that stands elsewhere than it did; one that stands where it did is not told.
 pub fn put_move(clip: u64, was: u64, place: u64, out: &mut [u8], at: usize) -> usize
     ensures { λ r. ⌜ text (now (out .exit)) r ≡ addAll (moveText clip was place) (text (now (out .entry)) at) ⌝ }
 {
@@ -36,24 +26,30 @@ pub fn put_move(clip: u64, was: u64, place: u64, out: &mut [u8], at: usize) -> u
     }
     let to = put_bytes(b"; clip ", out, at);
     let to = put_decimal(clip, out, to);
-    put_becomes(place, out, to)
+    put_by_place(
+        place,
+        b" waits again",
+        b" starts",
+        b" finishes",
+        b" is let go",
+        out,
+        to,
+    )
 }
 
-fn put_entry(place: u64, out: &mut [u8], at: usize) -> usize
-    ensures { λ r. ⌜ text (now (out .exit)) r ≡ add (entryText place) (text (now (out .entry)) at) ⌝ }
-{
-    if place == 1 {
-        return put_bytes(b" goes straight to sounding", out, at);
-    }
-    put_bytes(b" waits", out, at)
-}
-
+// Where a push lays its clip.
 fn put_laid(clip: u64, place: u64, out: &mut [u8], at: usize) -> usize
     ensures { λ r. ⌜ text (now (out .exit)) r ≡ addAll (laidText clip place) (text (now (out .entry)) at) ⌝ }
 {
     let to = put_bytes(b": clip ", out, at);
     let to = put_decimal(clip, out, to);
-    put_entry(place, out, to)
+    put_either(
+        place == 1,
+        b" goes straight to sounding",
+        b" waits",
+        out,
+        to,
+    )
 }
 
 fn put_mode(mode: ReplayMode, out: &mut [u8], at: usize) -> usize
@@ -65,6 +61,7 @@ fn put_mode(mode: ReplayMode, out: &mut [u8], at: usize) -> usize
     }
 }
 
+// What a creation makes.
 fn put_created(channels: u64, mode: ReplayMode, first: u64, out: &mut [u8], at: usize) -> usize
     ensures { λ r. ⌜ text (now (out .exit)) r ≡ addAll (createdText channels mode first) (text (now (out .entry)) at) ⌝ }
 {
@@ -75,6 +72,7 @@ fn put_created(channels: u64, mode: ReplayMode, first: u64, out: &mut [u8], at: 
     put_decimal(first, out, to)
 }
 
+// What became of an edit.
 fn put_edited(told: Answer, out: &mut [u8], at: usize) -> usize
     ensures { λ r. ⌜ text (now (out .exit)) r ≡ addAll (editedText told) (text (now (out .entry)) at) ⌝ }
 {
@@ -82,6 +80,7 @@ fn put_edited(told: Answer, out: &mut [u8], at: usize) -> usize
     put_answer(told, out, to)
 }
 
+// A rate, to the nearest thousandth.
 fn put_rate(rate: f64, out: &mut [u8], at: usize) -> usize
     ensures { λ r. ⌜ text (now (out .exit)) r ≡ addAll (rateText rate) (text (now (out .entry)) at) ⌝ }
 {
@@ -130,6 +129,7 @@ pub fn put_quiet(calls: u64, since: u64, peak: u32, out: &mut [u8], at: usize) -
     put_bytes(b"\n", out, to)
 }
 
+// A refusal behind its call; 0 is none.
 fn put_refused(refusal: u64, out: &mut [u8], at: usize) -> usize
     ensures { λ r. ⌜ text (now (out .exit)) r ≡ addAll (refusedText refusal) (text (now (out .entry)) at) ⌝ }
 {
@@ -150,6 +150,7 @@ pub fn put_begin(clock: u64, kind: u8, clip: u64, refusal: u64, out: &mut [u8], 
     put_refused(refusal, out, to)
 }
 
+// How many samples of each channel were heard, and the first channel's peak.
 fn put_samples(each: u64, peak: u32, heard: bool, out: &mut [u8], at: usize) -> usize
     ensures { λ r. ⌜ text (now (out .exit)) r ≡ addAll (samplesText each peak heard) (text (now (out .entry)) at) ⌝ }
 {

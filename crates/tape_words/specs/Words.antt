@@ -10,6 +10,10 @@ use Rattle.listing.specs.Text.{decimal}
 use Rattle.chart.specs.Scale.{scaledOf}
 use Rattle.refusal_texts.specs.Texts.{textOf}
 
+-- one of four, by where a clip stands: 0 waiting, 1 sounding, 2 finished, 3 let go
+abbrev pub byPlace : {A : Type 0} → (place : ℕ) → (waiting sounding finished «let_go» : A) → A
+byPlace place w s f g = cond (eqb place 0) w (cond (eqb place 1) s (cond (eqb place 2) f g))
+
 -- a number of thousandths, with three decimals
 unfoldable pub thousandthsText : ℕ → List (List ℕ)
 thousandthsText n = decimal (n / 1_000) ∷ ascii "." ∷ decimal (n / 100 % 10) ∷ decimal (n / 10 % 10) ∷ decimal (n % 10) ∷ []
@@ -19,7 +23,7 @@ unfoldable pub timeText : (micros : ℕ) → List (List ℕ)
 unfolding thousandthsText
 timeText t = thousandthsText t ++ (ascii " ms" ∷ [])
 
--- a magnitude's bits as a number with three decimals, rounded down; all from 2^23 on is one
+-- a magnitude's bits as a number with three decimals, rounded down; from 2^23 on one text stands for all
 unfoldable pub peakText : (bits : ℕ) → List (List ℕ)
 unfolding thousandthsText
 peakText b = cond (eqb (scaledOf b 1_000) 18_446_744_073_709_551_615) (ascii "8388608 or more" ∷ []) (thousandthsText (scaledOf b 1_000))
@@ -28,10 +32,11 @@ peakText b = cond (eqb (scaledOf b 1_000) 18_446_744_073_709_551_615) (ascii "83
 unfoldable pub refusalText : ℕ → List (List ℕ)
 refusalText n = ascii "refused " ∷ decimal n ∷ ascii ": " ∷ textOf n ∷ []
 
--- accepted pushes = waiting + sounding + finished + let go
+-- whether the accepted pushes are the sum of the counts
 abbrev pub equalsText : Bool → List ℕ
 equalsText good = cond good (ascii " accepted pushes = ") (ascii " accepted pushes, NOT ")
 
+-- accepted pushes = waiting + sounding + finished + let go
 unfoldable pub sumText : (pushes waiting sounding finished letGo : ℕ) → List (List ℕ)
 sumText p w s f g =
     decimal p ∷ equalsText (eqb p (w + s + f + g)) ∷ decimal w ∷ ascii " waiting + " ∷ decimal s ∷ ascii " sounding + " ∷ decimal f ∷ ascii " finished + " ∷ decimal g
@@ -49,7 +54,7 @@ pushText k =
     (cond (eqb k 11) (ascii "push, relative")
     (cond (eqb k 12) (ascii "push, by duration") (ascii "rate"))))))
 
--- an edit is named with the number that it names
+-- a call's name; an edit's with the number of its clip
 unfoldable pub callText : (kind clip : ℕ) → List (List ℕ)
 unfolding pushText
 callText k clip =
@@ -59,6 +64,11 @@ callText k clip =
     (cond (eqb k 6) (ascii "tick" ∷ [])
     (cond (eqb k 7) (ascii "block" ∷ [])
     (cond (eqb k 8) (ascii "reset" ∷ []) (pushText k ∷ []))))))
+
+-- a call and when it is made
+unfoldable pub callAt : (kind clip micros : ℕ) → List (List ℕ)
+unfolding callText timeText
+callAt kind clip micros = callText kind clip ++ (ascii " at " ∷ timeText micros)
 
 -- what became of an edit: applied, past, stored, or refused; any other call is done
 unfoldable pub answerText : Answer → List (List ℕ)

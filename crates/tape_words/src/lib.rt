@@ -1,13 +1,44 @@
 // Words of the pages about a tape, put piece by piece into a lent buffer (listing, pieces): each function answers the next free place, and a piece that has no room is left out.
 ghost use mathlib.Core.Path.{_≡_};
+ghost use mathlib.Core.Bool.{cond};
 ghost use Prim.Native.Nat.{_+_};
 ghost use lib.Dec.{eqb};
 ghost use Rattle.listing.specs.Pieces.{text, add, addAll};
 ghost use Rattle.listing.specs.Text.{decimal};
-ghost use Rattle.tape_words.specs.Words.{thousandthsText, timeText, peakText, refusalText, equalsText, sumText, callText, pushText, answerText};
+ghost use Rattle.tape_words.specs.Words.{byPlace, thousandthsText, timeText, peakText, refusalText, sumText, callText, callAt, pushText, answerText};
 use listing::pieces::put_bytes;
 use listing::pieces::put_decimal;
 use sequencer::Answer;
+
+// One of two texts: the first where `holds` is true.
+pub fn put_either(holds: bool, first: &[u8], second: &[u8], out: &mut [u8], at: usize) -> usize
+    ensures { λ r. ⌜ text (now (out .exit)) r ≡ add (cond holds (now (first .entry)) (now (second .entry))) (text (now (out .entry)) at) ⌝ }
+{
+    if holds {
+        return put_bytes(first, out, at);
+    }
+    put_bytes(second, out, at)
+}
+
+// One of four texts, by where a clip stands: 0 waiting, 1 sounding, 2 finished, 3 let go.
+pub fn put_by_place(
+    place: u64,
+    waiting: &[u8],
+    sounding: &[u8],
+    finished: &[u8],
+    let_go: &[u8],
+    out: &mut [u8],
+    at: usize,
+) -> usize
+    ensures { λ r. ⌜ text (now (out .exit)) r ≡ add (byPlace place (now (waiting .entry)) (now (sounding .entry)) (now (finished .entry)) (now («let_go» .entry))) (text (now (out .entry)) at) ⌝ }
+{
+    match place {
+        0 => put_bytes(waiting, out, at),
+        1 => put_bytes(sounding, out, at),
+        2 => put_bytes(finished, out, at),
+        _ => put_bytes(let_go, out, at),
+    }
+}
 
 // A number of thousandths, with three decimals.
 pub fn put_thousandths(n: u64, out: &mut [u8], at: usize) -> usize
@@ -65,15 +96,6 @@ fn is_sum(n: u64, a: u64, b: u64, c: u64, d: u64) -> bool
     n - a - b - c == d
 }
 
-fn put_equals(good: bool, out: &mut [u8], at: usize) -> usize
-    ensures { λ r. ⌜ text (now (out .exit)) r ≡ add (equalsText good) (text (now (out .entry)) at) ⌝ }
-{
-    if good {
-        return put_bytes(b" accepted pushes = ", out, at);
-    }
-    put_bytes(b" accepted pushes, NOT ", out, at)
-}
-
 // The sum: accepted pushes = waiting + sounding + finished + let go.
 pub fn put_sum(
     pushes: u64,
@@ -88,7 +110,13 @@ pub fn put_sum(
 {
     let good = is_sum(pushes, waiting, sounding, finished, let_go);
     let to = put_decimal(pushes, out, at);
-    let to = put_equals(good, out, to);
+    let to = put_either(
+        good,
+        b" accepted pushes = ",
+        b" accepted pushes, NOT ",
+        out,
+        to,
+    );
     let to = put_decimal(waiting, out, to);
     let to = put_bytes(b" waiting + ", out, to);
     let to = put_decimal(sounding, out, to);
@@ -114,6 +142,7 @@ fn put_push(kind: u8, out: &mut [u8], at: usize) -> usize
     }
 }
 
+// An edit's name, and the number of the clip that it names.
 fn put_edit(name: &[u8], clip: u64, out: &mut [u8], at: usize) -> usize
     ensures { λ r. ⌜ text (now (out .exit)) r ≡ add (decimal clip) (add (now (name .entry)) (text (now (out .entry)) at)) ⌝ }
 {
@@ -121,7 +150,7 @@ fn put_edit(name: &[u8], clip: u64, out: &mut [u8], at: usize) -> usize
     put_decimal(clip, out, to)
 }
 
-// A call's name, by its record's kind; an edit's with the number that it names.
+// A call's name, by its record's kind; an edit's with the number of its clip.
 pub fn put_call(kind: u8, clip: u64, out: &mut [u8], at: usize) -> usize
     ensures { λ r. ⌜ text (now (out .exit)) r ≡ addAll (callText kind clip) (text (now (out .entry)) at) ⌝ }
 {
@@ -134,6 +163,15 @@ pub fn put_call(kind: u8, clip: u64, out: &mut [u8], at: usize) -> usize
         8 => put_bytes(b"reset", out, at),
         _ => put_push(kind, out, at),
     }
+}
+
+// A call's name and when it is made.
+pub fn put_call_at(kind: u8, clip: u64, micros: u64, out: &mut [u8], at: usize) -> usize
+    ensures { λ r. ⌜ text (now (out .exit)) r ≡ addAll (callAt kind clip micros) (text (now (out .entry)) at) ⌝ }
+{
+    let to = put_call(kind, clip, out, at);
+    let to = put_bytes(b" at ", out, to);
+    put_time(micros, out, to)
 }
 
 // What became of an edit.

@@ -19,10 +19,8 @@ same-length c =
     let s28 = s24 .before .before .before .before in
     let s33 = s28 .before .before .before .before .before in
     let s37 = s33 .before .before .before .before in
-    let s42 = s37 .before .before .before .before .before in
-    let s46 = s42 .before .before .before .before in
-    let g1 = s46 .out .given in let g2 = s42 .out2 .given in let g3 = s37 .out3 .given in let g4 = s33 .out4 .given in let g5 = s28 .out5 .given in let g6 = s24 .out6 .given in
-    let g7 = s19 .out7 .given in let g8 = s15 .out8 .given in let g9 = s10 .out9 .given in let g10 = s6 .out10 .given in let g11 = s1 .out11 .given in
+    let g1 = s37 .out .given in let g2 = s33 .out2 .given in let g3 = s28 .out3 .given in let g4 = s24 .out4 .given in let g5 = s19 .out5 .given in let g6 = s15 .out6 .given in
+    let g7 = s10 .out7 .given in let g8 = s6 .out8 .given in let g9 = s1 .out9 .given in
     search needs
 
 returns : tie.Need-returns
@@ -37,23 +35,19 @@ returns c =
     let s29 = s25 .before .before .before .before in
     let s34 = s29 .before .before .before .before .before in
     let s38 = s34 .before .before .before .before in
-    let s43 = s38 .before .before .before .before .before in
-    let s47 = s43 .before .before .before .before in
-    let s50 = s47 .before .before .before in
-    let s51 = s50 .before in
-    let s52 = s51 .before in
-    let e1 = s47 .put-open-mark .ensures in
-    let e2 = s43 .put-call .ensures in
-    let e3 = one _ _ (s38 .put-bytes .ensures) in
-    let e4 = s34 .put-call2 .ensures in
-    let e5 = one _ _ (s29 .put-bytes2 .ensures) in
-    let e6 = s25 .put-time .ensures in
-    let e7 = one _ _ (s20 .put-bytes3 .ensures) in
-    let e8 = named _ (ap (λ (y¹ : ℕ). decimal y¹ ∷ []) (s52 .x .ensures .0)) (one _ _ (s16 .put-decimal .ensures)) in
-    let e9 = one _ _ (s11 .put-bytes4 .ensures) in
-    let e10 = named _ (ap (λ (y¹ : ℕ). decimal y¹ ∷ []) (s50 .less .ensures ∙ ap (λ (z : ℕ). z - 176) (s51 .lanes-end .ensures .0))) (one _ _ (s7 .put-decimal2 .ensures)) in
-    let e11 = one _ _ (s2 .put-bytes5 .ensures) in
-    let r = further _ _ _ e1 (further _ _ _ e2 (further _ _ _ e3 (further _ _ _ e4 (further _ _ _ e5 (further _ _ _ e6 (further _ _ _ e7 (further _ _ _ e8 (further _ _ _ e9 (further _ _ _ e10 e11))))))))) in
+    let s41 = s38 .before .before .before in
+    let s42 = s41 .before in
+    let s43 = s42 .before in
+    let e1 = s38 .put-open-mark .ensures in
+    let e2 = s34 .put-call .ensures in
+    let e3 = one _ _ (s29 .put-bytes .ensures) in
+    let e4 = s25 .put-call-at .ensures in
+    let e5 = one _ _ (s20 .put-bytes2 .ensures) in
+    let e6 = named _ (ap (λ (y¹ : ℕ). decimal y¹ ∷ []) (s43 .x .ensures .0)) (one _ _ (s16 .put-decimal .ensures)) in
+    let e7 = one _ _ (s11 .put-bytes3 .ensures) in
+    let e8 = named _ (ap (λ (y¹ : ℕ). decimal y¹ ∷ []) (s41 .less .ensures ∙ ap (λ (z : ℕ). z - 176) (s42 .lanes-end .ensures .0))) (one _ _ (s7 .put-decimal2 .ensures)) in
+    let e9 = one _ _ (s2 .put-bytes4 .ensures) in
+    let r = further _ _ _ e1 (further _ _ _ e2 (further _ _ _ e3 (further _ _ _ e4 (further _ _ _ e5 (further _ _ _ e6 (further _ _ _ e7 (further _ _ _ e8 e9))))))) in
     r
 
 pub put-called-spec : {M : Type 1} → statement M
@@ -62,4 +56,4 @@ put-called-spec =
     (tie.spec (λ c κs. search needs) (λ c κs. search needs) (λ c κs. search needs) (λ c. search needs) (λ c κs. search needs)
     (λ c κs. search needs) (λ c. search needs) (λ c κs. search needs) (λ c κs. search needs) (λ c. search needs) (λ c κs. search needs)
     (λ c κs. search needs) (λ c. search needs) (λ c κs. search needs) (λ c κs. search needs) (λ c. search needs) (λ c κs. search needs)
-    (λ c κs. search needs) (λ c. search needs) (λ c κs. search needs) same-length returns)
+    same-length returns)

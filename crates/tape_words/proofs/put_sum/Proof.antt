@@ -18,8 +18,8 @@ same-length c =
     let s28 = s24 .before .before .before .before in
     let s33 = s28 .before .before .before .before .before in
     let s37 = s33 .before .before .before .before in
-    let s41 = s37 .before .before .before .before in
-    let g1 = s41 .out .given in let g2 = s37 .out2 .given in let g3 = s33 .out3 .given in let g4 = s28 .out4 .given in let g5 = s24 .out5 .given in let g6 = s19 .out6 .given in let g7 = s15 .out7 .given in let g8 = s10 .out8 .given in let g9 = s6 .out9 .given in let g10 = s1 .out10 .given in search needs
+    let s43 = s37 .before .before .before .before .before .before in
+    let g1 = s43 .out .given in let g2 = s37 .out2 .given in let g3 = s33 .out3 .given in let g4 = s28 .out4 .given in let g5 = s24 .out5 .given in let g6 = s19 .out6 .given in let g7 = s15 .out7 .given in let g8 = s10 .out8 .given in let g9 = s6 .out9 .given in let g10 = s1 .out10 .given in search needs
 
 returns : tie.Need-returns
 unfolding sumText
@@ -33,19 +33,20 @@ returns c =
     let s29 = s25 .before .before .before .before in
     let s34 = s29 .before .before .before .before .before in
     let s38 = s34 .before .before .before .before in
-    let s42 = s38 .before .before .before .before in
-    let s44 = s42 .before .before in
+    let s44 = s38 .before .before .before .before .before .before in
+    let s46 = s44 .before .before in
     let w = further _ _ _ (one _ _ (s34 .put-decimal2 .ensures)) (one _ _ (s29 .put-bytes .ensures)) in
     let s = further _ _ _ (one _ _ (s25 .put-decimal3 .ensures)) (one _ _ (s20 .put-bytes2 .ensures)) in
     let f = further _ _ _ (one _ _ (s16 .put-decimal4 .ensures)) (one _ _ (s11 .put-bytes3 .ensures)) in
     let g = further _ _ _ (one _ _ (s7 .put-decimal5 .ensures)) (one _ _ (s2 .put-bytes4 .ensures)) in
-    let q = named _ (ap (λ (b : Bool). equalsText b ∷ []) (s44 .is-sum .ensures)) (one _ _ (s38 .put-equals .ensures)) in
-    let r = further _ _ _ (one _ _ (s42 .put-decimal .ensures)) (further _ _ _ q (further _ _ _ w (further _ _ _ s (further _ _ _ f g)))) in
+    let q = named _ (ap (λ (b : Bool). equalsText b ∷ []) (s46 .is-sum .ensures)) (one _ _ (s38 .put-either .ensures)) in
+    let r = further _ _ _ (one _ _ (s44 .put-decimal .ensures)) (further _ _ _ q (further _ _ _ w (further _ _ _ s (further _ _ _ f g)))) in
     r
 
 pub put-sum-spec : {M : Type 1} → statement M
 put-sum-spec =
     tie.close
-    (tie.spec (λ c κs. search needs) (λ c κs. search needs) (λ c κs. search needs) (λ c κs. search needs) (λ c. search needs)
-    (λ c κs. search needs) (λ c κs. search needs) (λ c. search needs) (λ c κs. search needs) (λ c κs. search needs) (λ c. search needs)
-    (λ c κs. search needs) (λ c κs. search needs) (λ c. search needs) (λ c κs. search needs) same-length returns)
+    (tie.spec (λ c κs. search needs) (λ c κs. search needs) (λ c. search needs) (λ c. search needs) (λ c κs. search needs)
+    (λ c κs. search needs) (λ c. search needs) (λ c κs. search needs) (λ c κs. search needs) (λ c. search needs) (λ c κs. search needs)
+    (λ c κs. search needs) (λ c. search needs) (λ c κs. search needs) (λ c κs. search needs) (λ c. search needs) (λ c κs. search needs)
+    same-length returns)
