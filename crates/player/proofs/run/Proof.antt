@@ -157,7 +157,8 @@ abbrev μ-loop : tie.MeasureT-loop
 
 -- ---- the last record's part has been put
 
-rested : (c : tie.After-leave Inv-loop2 μ-loop2 Inv-loop4 μ-loop4 Inv-loop5 μ-loop5 Inv-loop6 μ-loop6 Inv-loop3 μ-loop3 Inv-loop7 μ-loop7 Inv-loop8 μ-loop8 Inv-loop9 μ-loop9 Inv-loop10 μ-loop10 Inv-loop12 μ-loop12 Inv-loop11 μ-loop11 Inv-loop13 μ-loop13 Inv-loop μ-loop) → (let l = c .before .before .before .loop in let a = c .before .before .before .before .before .before .before .before .before .args in
+rested : (c : tie.After-leave Inv-loop2 μ-loop2 Inv-loop4 μ-loop4 Inv-loop5 μ-loop5 Inv-loop6 μ-loop6 Inv-loop3 μ-loop3 Inv-loop7 μ-loop7 Inv-loop8 μ-loop8 Inv-loop9 μ-loop9 Inv-loop10 μ-loop10 Inv-loop12 μ-loop12 Inv-loop11 μ-loop11 Inv-loop13 μ-loop13 Inv-loop μ-loop) →
+    (let l = c .before .before .before .loop in let a = c .before .before .before .before .before .before .before .before .before .args in
     Resting (a .form) (a .pool .now) (a .tape .now) (a .whole) (a .sequencer) (a .cursor) (a .out .now) (c .leave .last .1 .1 .1 .1 .0) (withEdits (l .s) (l .edits)) (l .cursor) (l .inv .samples) (l .left) (c .leave .result))
 rested c = rests _ _ _ _ _ _ _ (c .before .before .before .loop .inv) (c .leave .ensures .1)
 
@@ -177,12 +178,15 @@ rested-within c =
 
 -- ---- the record that was read, and what its plan means
 
-reads : (c : tie.After-plan-of Inv-loop2 μ-loop2 Inv-loop4 μ-loop4 Inv-loop5 μ-loop5 Inv-loop6 μ-loop6 Inv-loop3 μ-loop3 Inv-loop7 μ-loop7 Inv-loop8 μ-loop8 Inv-loop9 μ-loop9 Inv-loop10 μ-loop10 Inv-loop12 μ-loop12 Inv-loop11 μ-loop11 Inv-loop13 μ-loop13 Inv-loop μ-loop) → (let v = c .before .before .before .before .before .before .r .given .0 in readAt (c .before .before .before .before .before .before .before .before .before .before .before .before .before .before .before .before .before .before .before .before .before .before .before .before .args .tape .now)
+reads : (c : tie.After-plan-of Inv-loop2 μ-loop2 Inv-loop4 μ-loop4 Inv-loop5 μ-loop5 Inv-loop6 μ-loop6 Inv-loop3 μ-loop3 Inv-loop7 μ-loop7 Inv-loop8 μ-loop8 Inv-loop9 μ-loop9 Inv-loop10 μ-loop10 Inv-loop12 μ-loop12 Inv-loop11 μ-loop11 Inv-loop13 μ-loop13 Inv-loop μ-loop) →
+    (let v = c .before .before .before .before .before .before .r .given .0 in readAt (c .before .before .before .before .before .before .before .before .before .before .before .before .before .before .before .before .before .before .before .before .before .before .before .before .args .tape .now)
     (c .before .before .before .before .before .before .before .before .before .before .before .before .before .before .before .before .before .before .loop .cursor) ≡ Record (v .0) (v .1 .0) (v .1 .1 .0))
 reads c =
     sym (c .before .before .before .before .before .before .before .before .read .ensures) ∙ c .before .before .before .before .before .before .r .given .1
 
-planned : (c : tie.After-plan-of Inv-loop2 μ-loop2 Inv-loop4 μ-loop4 Inv-loop5 μ-loop5 Inv-loop6 μ-loop6 Inv-loop3 μ-loop3 Inv-loop7 μ-loop7 Inv-loop8 μ-loop8 Inv-loop9 μ-loop9 Inv-loop10 μ-loop10 Inv-loop12 μ-loop12 Inv-loop11 μ-loop11 Inv-loop13 μ-loop13 Inv-loop μ-loop) → (let l = c .before .before .before .before .before .before .before .before .before .before .before .before .before .before .before .before .before .before .loop in c .plan-of .result ≡ planOf (c .before .before .before .before .before .before .r .given .0 .1 .0) (clockOf (withEdits (l .s) (l .edits))) (length (c .before .before .before .before .before .before .before .before .before .before .before .before .before .before .before .before .before .before .before .before .before .before .before .before .args .out .now) - c .before .before .before .before .before .before .before .before .before .before .before .before .before .before .before .leave .result))
+planned : (c : tie.After-plan-of Inv-loop2 μ-loop2 Inv-loop4 μ-loop4 Inv-loop5 μ-loop5 Inv-loop6 μ-loop6 Inv-loop3 μ-loop3 Inv-loop7 μ-loop7 Inv-loop8 μ-loop8 Inv-loop9 μ-loop9 Inv-loop10 μ-loop10 Inv-loop12 μ-loop12 Inv-loop11 μ-loop11 Inv-loop13 μ-loop13 Inv-loop μ-loop) →
+    (let l = c .before .before .before .before .before .before .before .before .before .before .before .before .before .before .before .before .before .before .loop in c .plan-of .result ≡ planOf (c .before .before .before .before .before .before .r .given .0 .1 .0) (clockOf (withEdits (l .s) (l .edits)))
+    (length (c .before .before .before .before .before .before .before .before .before .before .before .before .before .before .before .before .before .before .before .before .before .before .before .before .args .out .now) - c .before .before .before .before .before .before .before .before .before .before .before .before .before .before .before .leave .result))
 planned c =
     let l = c .before .before .before .before .before .before .before .before .before .before .before .before .before .before .before .before .before .before .loop in
     let long = same-rest _ _ _ _ _ _ _ (rested (c .before .before .before .before .before .before .before .before .before .before .before .before .before .before .before)) in
@@ -210,12 +214,16 @@ told : (c : tie.After-plan-of Inv-loop2 μ-loop2 Inv-loop4 μ-loop4 Inv-loop5 μ
 told c e = subst (Called c) e (meant c)
 
 -- a creation, of any output
-created : (c : tie.After-plan-of Inv-loop2 μ-loop2 Inv-loop4 μ-loop4 Inv-loop5 μ-loop5 Inv-loop6 μ-loop6 Inv-loop3 μ-loop3 Inv-loop7 μ-loop7 Inv-loop8 μ-loop8 Inv-loop9 μ-loop9 Inv-loop10 μ-loop10 Inv-loop12 μ-loop12 Inv-loop11 μ-loop11 Inv-loop13 μ-loop13 Inv-loop μ-loop) → c .plan-of .result ≡ Create → (let l = c .before .before .before .before .before .before .before .before .before .before .before .before .before .before .before .before .before .before .loop in Creates (c .before .before .before .before .before .before .before .before .before .before .before .before .before .before .before .before .before .before .before .before .before .before .before .before .args .pool .now) (withEdits (l .s) (l .edits)) (c .before .before .before .before .before .before .r .given .0 .1 .0) Create)
+created : (c : tie.After-plan-of Inv-loop2 μ-loop2 Inv-loop4 μ-loop4 Inv-loop5 μ-loop5 Inv-loop6 μ-loop6 Inv-loop3 μ-loop3 Inv-loop7 μ-loop7 Inv-loop8 μ-loop8 Inv-loop9 μ-loop9 Inv-loop10 μ-loop10 Inv-loop12 μ-loop12 Inv-loop11 μ-loop11 Inv-loop13 μ-loop13 Inv-loop μ-loop) → c .plan-of .result ≡ Create →
+    (let l = c .before .before .before .before .before .before .before .before .before .before .before .before .before .before .before .before .before .before .loop in Creates
+    (c .before .before .before .before .before .before .before .before .before .before .before .before .before .before .before .before .before .before .before .before .before .before .before .before .args .pool .now) (withEdits (l .s) (l .edits)) (c .before .before .before .before .before .before .r .given .0 .1 .0) Create)
 created c e =
     let l = c .before .before .before .before .before .before .before .before .before .before .before .before .before .before .before .before .before .before .loop in
     let call = c .before .before .before .before .before .before .r .given .0 .1 .0 in
     let s = withEdits (l .s) (l .edits) in
-    subst (Creates (c .before .before .before .before .before .before .before .before .before .before .before .before .before .before .before .before .before .before .before .before .before .before .before .before .args .pool .now) s call) (sym (planned c) ∙ e) (creates (c .before .before .before .before .before .before .before .before .before .before .before .before .before .before .before .before .before .before .before .before .before .before .before .before .args .pool .now) s (length (c .before .before .before .before .before .before .before .before .before .before .before .before .before .before .before .before .before .before .before .before .before .before .before .before .args .out .now) - c .before .before .before .before .before .before .before .before .before .before .before .before .before .before .before .leave .result) call)
+    subst (Creates (c .before .before .before .before .before .before .before .before .before .before .before .before .before .before .before .before .before .before .before .before .before .before .before .before .args .pool .now) s call) (sym (planned c) ∙ e)
+        (creates (c .before .before .before .before .before .before .before .before .before .before .before .before .before .before .before .before .before .before .before .before .before .before .before .before .args .pool .now) s
+        (length (c .before .before .before .before .before .before .before .before .before .before .before .before .before .before .before .before .before .before .before .before .before .before .before .before .args .out .now) - c .before .before .before .before .before .before .before .before .before .before .before .before .before .before .before .leave .result) call)
 
 -- the next record is nearer to the tape's end
 less : (c : tie.After-plan-of Inv-loop2 μ-loop2 Inv-loop4 μ-loop4 Inv-loop5 μ-loop5 Inv-loop6 μ-loop6 Inv-loop3 μ-loop3 Inv-loop7 μ-loop7 Inv-loop8 μ-loop8 Inv-loop9 μ-loop9 Inv-loop10 μ-loop10 Inv-loop12 μ-loop12 Inv-loop11 μ-loop11 Inv-loop13 μ-loop13 Inv-loop μ-loop) →
@@ -226,7 +234,9 @@ less c =
     let q = m .1 in
     omega arith
 
-roomy-in : (c : tie.After-plan-of Inv-loop2 μ-loop2 Inv-loop4 μ-loop4 Inv-loop5 μ-loop5 Inv-loop6 μ-loop6 Inv-loop3 μ-loop3 Inv-loop7 μ-loop7 Inv-loop8 μ-loop8 Inv-loop9 μ-loop9 Inv-loop10 μ-loop10 Inv-loop12 μ-loop12 Inv-loop11 μ-loop11 Inv-loop13 μ-loop13 Inv-loop μ-loop) → (let a = c .before .before .before .before .before .before .before .before .before .before .before .before .before .before .before .before .before .before .before .before .before .before .before .before .args in ltb (length (a .out .now) - c .before .before .before .before .before .before .before .before .before .before .before .before .before .before .before .leave .result) (roomFor (a .form) []) ≡ false)
+roomy-in : (c : tie.After-plan-of Inv-loop2 μ-loop2 Inv-loop4 μ-loop4 Inv-loop5 μ-loop5 Inv-loop6 μ-loop6 Inv-loop3 μ-loop3 Inv-loop7 μ-loop7 Inv-loop8 μ-loop8 Inv-loop9 μ-loop9 Inv-loop10 μ-loop10 Inv-loop12 μ-loop12 Inv-loop11 μ-loop11 Inv-loop13 μ-loop13 Inv-loop μ-loop) →
+    (let a = c .before .before .before .before .before .before .before .before .before .before .before .before .before .before .before .before .before .before .before .before .before .before .before .before .args in ltb
+    (length (a .out .now) - c .before .before .before .before .before .before .before .before .before .before .before .before .before .before .before .leave .result) (roomFor (a .form) []) ≡ false)
 roomy-in c =
     roomy _ _ _ _ _ _ _ (rested (c .before .before .before .before .before .before .before .before .before .before .before .before .before .before .before)) (sym (c .before .before .before .before .is-full .ensures) ∙ c .before .before .before .if3 .left)
 
@@ -235,10 +245,13 @@ on-silent : (c : tie.After-plan-of Inv-loop2 μ-loop2 Inv-loop4 μ-loop4 Inv-loo
     → (let l = c .before .before .before .before .before .before .before .before .before .before .before .before .before .before .before .before .before .before .loop in let a = c .before .before .before .before .before .before .before .before .before .before .before .before .before .before .before .before .before .before .before .before .before .before .before .before .args in let v = c .before .before .before .before .before .before .r .given .0 in let y = withEdits (l .s) (l .edits) in
     appliedTo (a .pool .now) y (v .1 .0) (l .inv .samples) ≡ silent s n → appliedOut (a .pool .now) y (v .1 .0) (l .inv .samples) ≡ l .inv .samples
     → (left : Left) → left ≡ withRefusal n (silentLeft (v .0)) → (x : Sequencer) → x ≡ s
-    → Rolling (a .form) (a .pool .now) (a .tape .now) (a .whole) (a .sequencer) (a .cursor) (a .out .now) (c .before .before .before .before .before .before .before .before .before .before .before .before .before .before .before .leave .last .1 .1 .1 .1 .0) x (v .1 .1 .0) (l .mix) left (c .before .before .before .before .before .before .before .before .before .before .before .before .before .before .before .leave .result))
+    → Rolling (a .form) (a .pool .now) (a .tape .now) (a .whole) (a .sequencer) (a .cursor) (a .out .now) (c .before .before .before .before .before .before .before .before .before .before .before .before .before .before .before .leave .last .1 .1 .1 .1 .0) x (v .1 .1 .0) (l .mix) left
+        (c .before .before .before .before .before .before .before .before .before .before .before .before .before .before .before .leave .result))
 on-silent c p q =
     let v = c .before .before .before .before .before .before .r .given .0 in
-    goes-on-silent _ _ _ _ _ _ _ (rested (c .before .before .before .before .before .before .before .before .before .before .before .before .before .before .before)) (c .before .before .before .before .before .before .before .before .before .before .before .if1 .left) (sym (c .before .before .before .before .before .before .before .before .before .before .is-short .ensures) ∙ c .before .before .before .before .before .before .before .before .before .if2 .left) (v .0) (v .1 .0) (v .1 .1 .0) (reads c) p q (c .before .before .before .before .before .before .before .before .before .before .before .before .before .before .before .before .before .before .loop .mix) (c .before .before .before .before .before .before .before .before .before .before .before .before .before .before .before .before .before .before .loop .inv .wide) (roomy-in c)
+    goes-on-silent _ _ _ _ _ _ _ (rested (c .before .before .before .before .before .before .before .before .before .before .before .before .before .before .before)) (c .before .before .before .before .before .before .before .before .before .before .before .if1 .left)
+        (sym (c .before .before .before .before .before .before .before .before .before .before .is-short .ensures) ∙ c .before .before .before .before .before .before .before .before .before .if2 .left) (v .0) (v .1 .0) (v .1 .1 .0) (reads c) p q
+        (c .before .before .before .before .before .before .before .before .before .before .before .before .before .before .before .before .before .before .loop .mix) (c .before .before .before .before .before .before .before .before .before .before .before .before .before .before .before .before .before .before .loop .inv .wide) (roomy-in c)
 
 -- ---- a tick or block
 
@@ -247,7 +260,8 @@ started : (c : tie.Else5 Inv-loop2 μ-loop2 Inv-loop4 μ-loop4 Inv-loop5 μ-loop
     256) × ((getD (s .ready) 0 blank .«start_time» <ᶠ s .«active_threshold») ≡ true))
 started c = starts-true _ _ _ (sym (c .before .starts .ensures) ∙ not-false _ (c .if5 .left))
 
-sought-edit : (c : tie.Left-loop4 Inv-loop2 μ-loop2 Inv-loop4 μ-loop4 Inv-loop5 μ-loop5 Inv-loop6 μ-loop6 Inv-loop3 μ-loop3 Inv-loop7 μ-loop7 Inv-loop8 μ-loop8 Inv-loop9 μ-loop9 Inv-loop10 μ-loop10 Inv-loop12 μ-loop12 Inv-loop11 μ-loop11 Inv-loop13 μ-loop13 Inv-loop μ-loop) → (let l = c .before .loop4 in let m = c .before .before .before .before .before .before .before .loop3 .edits in let k = getD (c .before .before .before .before .before .before .before .loop3 .s .ready) 0 blank .id in
+sought-edit : (c : tie.Left-loop4 Inv-loop2 μ-loop2 Inv-loop4 μ-loop4 Inv-loop5 μ-loop5 Inv-loop6 μ-loop6 Inv-loop3 μ-loop3 Inv-loop7 μ-loop7 Inv-loop8 μ-loop8 Inv-loop9 μ-loop9 Inv-loop10 μ-loop10 Inv-loop12 μ-loop12 Inv-loop11 μ-loop11 Inv-loop13 μ-loop13 Inv-loop μ-loop) →
+    (let l = c .before .loop4 in let m = c .before .before .before .before .before .before .before .loop3 .edits in let k = getD (c .before .before .before .before .before .before .before .loop3 .s .ready) 0 blank .id in
     (l .j < c .before .before .counted .result → At (l .j) ≡ placed m k) × (c .before .before .counted .result ≤ l .j → Nothing ≡ placed m k))
 sought-edit c =
     let l = c .before .loop4 in
@@ -274,7 +288,8 @@ sized : (c : tie.Joined7 Inv-loop2 μ-loop2 Inv-loop4 μ-loop4 Inv-loop5 μ-loop
     .«ready_len») × (c .before .before .before .before .before .before .before .before .loop3 .s .«ready_len» ≤ 256)
 sized c = let h = started (c .before .before .before .before .before) in (h .0, h .1)
 
-between : (c : tie.After-lesser-child Inv-loop2 μ-loop2 Inv-loop4 μ-loop4 Inv-loop5 μ-loop5 Inv-loop6 μ-loop6 Inv-loop3 μ-loop3 Inv-loop7 μ-loop7 Inv-loop8 μ-loop8 Inv-loop9 μ-loop9 Inv-loop10 μ-loop10 Inv-loop12 μ-loop12 Inv-loop11 μ-loop11 Inv-loop13 μ-loop13 Inv-loop μ-loop) → (c .before .before .before .before .loop6 .i < c .lesser-child .result) × (c .lesser-child .result < lastPlace (c .before .before .before .before .before .before .before .before .before .before .before .before .before .before .loop3 .s))
+between : (c : tie.After-lesser-child Inv-loop2 μ-loop2 Inv-loop4 μ-loop4 Inv-loop5 μ-loop5 Inv-loop6 μ-loop6 Inv-loop3 μ-loop3 Inv-loop7 μ-loop7 Inv-loop8 μ-loop8 Inv-loop9 μ-loop9 Inv-loop10 μ-loop10 Inv-loop12 μ-loop12 Inv-loop11 μ-loop11 Inv-loop13 μ-loop13 Inv-loop μ-loop) → (c .before .before .before .before .loop6 .i < c .lesser-child .result) ×
+    (c .lesser-child .result < lastPlace (c .before .before .before .before .before .before .before .before .before .before .before .before .before .before .loop3 .s))
 between c = child-between (c .before .before .before .before .loop6 .s .ready) _ _ _ (c .lesser-child .ensures) (c .before .before .before .loop6-test .taken)
 
 -- the heap once the last has sunk
@@ -292,14 +307,21 @@ popped-in c =
     ap (λ (y : Sequencer). withEdits y (c .before .before .before .if7 .edits)) (popped c) ∙ popped-beside (c .before .before .before .before .before .before .before .before .before .before .before .loop3 .s) (c .before .before .before .if7 .edits)
 
 -- place i holds an event
-inside : (c : tie.Then10 Inv-loop2 μ-loop2 Inv-loop4 μ-loop4 Inv-loop5 μ-loop5 Inv-loop6 μ-loop6 Inv-loop3 μ-loop3 Inv-loop7 μ-loop7 Inv-loop8 μ-loop8 Inv-loop9 μ-loop9 Inv-loop10 μ-loop10 Inv-loop12 μ-loop12 Inv-loop11 μ-loop11 Inv-loop13 μ-loop13 Inv-loop μ-loop) → (c .before .before .loop7 .i < c .before .before .loop7 .s .«active_len») × (c .before .before .loop7 .s .«active_len» ≤ 256)
+inside : (c : tie.Then10 Inv-loop2 μ-loop2 Inv-loop4 μ-loop4 Inv-loop5 μ-loop5 Inv-loop6 μ-loop6 Inv-loop3 μ-loop3 Inv-loop7 μ-loop7 Inv-loop8 μ-loop8 Inv-loop9 μ-loop9 Inv-loop10 μ-loop10 Inv-loop12 μ-loop12 Inv-loop11 μ-loop11 Inv-loop13 μ-loop13 Inv-loop μ-loop) → (c .before .before .loop7 .i < c .before .before .loop7 .s .«active_len») ×
+    (c .before .before .loop7 .s .«active_len» ≤ 256)
 inside c = within-true _ _ (sym (c .before .within .ensures) ∙ c .if10 .taken)
 
 -- the lists have changed, and the clock
-advanced-to : (c : tie.Else10 Inv-loop2 μ-loop2 Inv-loop4 μ-loop4 Inv-loop5 μ-loop5 Inv-loop6 μ-loop6 Inv-loop3 μ-loop3 Inv-loop7 μ-loop7 Inv-loop8 μ-loop8 Inv-loop9 μ-loop9 Inv-loop10 μ-loop10 Inv-loop12 μ-loop12 Inv-loop11 μ-loop11 Inv-loop13 μ-loop13 Inv-loop μ-loop) → (let b = c .before .before .before .before .before .before .before .before .before .before .plan4 .given .0 .0 in let u = withEdits (c .before .before .loop7 .s) (c .before .before .before .before .before .before .loop3 .edits) in withTimes u (b .end) (u .«active_threshold») ≡ advancedIn b (withEdits (c .before .before .before .before .before .before .before .before .before .before .before .before .before .before .before .before .before .before .before .before .before .before .before .before .before .before .before .before .before .before .loop .s) (c .before .before .before .before .before .before .before .before .before .before .before .before .before .before .before .before .before .before .before .before .before .before .before .before .before .before .before .before .before .before .loop .edits)))
+advanced-to : (c : tie.Else10 Inv-loop2 μ-loop2 Inv-loop4 μ-loop4 Inv-loop5 μ-loop5 Inv-loop6 μ-loop6 Inv-loop3 μ-loop3 Inv-loop7 μ-loop7 Inv-loop8 μ-loop8 Inv-loop9 μ-loop9 Inv-loop10 μ-loop10 Inv-loop12 μ-loop12 Inv-loop11 μ-loop11 Inv-loop13 μ-loop13 Inv-loop μ-loop) →
+    (let b = c .before .before .before .before .before .before .before .before .before .before .plan4 .given .0 .0 in let u = withEdits (c .before .before .loop7 .s) (c .before .before .before .before .before .before .loop3 .edits) in withTimes u (b .end) (u .«active_threshold») ≡ advancedIn b
+    (withEdits (c .before .before .before .before .before .before .before .before .before .before .before .before .before .before .before .before .before .before .before .before .before .before .before .before .before .before .before .before .before .before .loop .s)
+    (c .before .before .before .before .before .before .before .before .before .before .before .before .before .before .before .before .before .before .before .before .before .before .before .before .before .before .before .before .before .before .loop .edits)))
 advanced-to c =
-    let b = c .before .before .before .before .before .before .before .before .before .before .plan4 .given .0 .0 in
-    let s = withEdits (c .before .before .before .before .before .before .before .before .before .before .before .before .before .before .before .before .before .before .before .before .before .before .before .before .before .before .before .before .before .before .loop .s) (c .before .before .before .before .before .before .before .before .before .before .before .before .before .before .before .before .before .before .before .before .before .before .before .before .before .before .before .before .before .before .loop .edits) in
+    let c₁ = c .before .before .before .before .before .before .before .before .before in
+    let c₂ = c₁ .before .before .before .before .before .before .before .before .before in
+    let c₃ = c₂ .before .before .before .before .before .before .before .before .before in
+    let b = c₁ .before .plan4 .given .0 .0 in
+    let s = withEdits (c₃ .before .before .before .loop .s) (c₃ .before .before .before .loop .edits) in
     let t = withEdits (c .before .before .before .before .before .before .loop3 .s) (c .before .before .before .before .before .before .loop3 .edits) in
     let u = withEdits (c .before .before .loop7 .s) (c .before .before .before .before .before .before .loop3 .edits) in
     advanced-by b s _ t u (begun b s (c .before .before .before .before .before .before .before .before .gone .ensures) (c .before .before .before .before .before .before .before .kept .ensures))
@@ -314,7 +336,9 @@ renders-in c = told (c .before .before) (c .plan4 .given .1)
 
 -- every event has been added
 summed : (c : tie.After-loop8 Inv-loop2 μ-loop2 Inv-loop4 μ-loop4 Inv-loop5 μ-loop5 Inv-loop6 μ-loop6 Inv-loop3 μ-loop3 Inv-loop7 μ-loop7 Inv-loop8 μ-loop8 Inv-loop9 μ-loop9 Inv-loop10 μ-loop10 Inv-loop12 μ-loop12 Inv-loop11 μ-loop11 Inv-loop13 μ-loop13 Inv-loop μ-loop)
-    → (let b = c .before .before .before .before .before .before .before .before .before .before .before .before .before .before .before .before .before .plan4 .given .0 .0 in let s = withEdits (c .before .before .before .before .before .before .before .before .before .before .before .before .before .before .before .before .before .before .before .before .before .before .before .before .before .before .before .before .before .before .before .before .before .before .before .before .before .loop .s) (c .before .before .before .before .before .before .before .before .before .before .before .before .before .before .before .before .before .before .before .before .before .before .before .before .before .before .before .before .before .before .before .before .before .before .before .before .before .loop .edits) in
+    → (let b = c .before .before .before .before .before .before .before .before .before .before .before .before .before .before .before .before .before .plan4 .given .0 .0 in let s = withEdits
+        (c .before .before .before .before .before .before .before .before .before .before .before .before .before .before .before .before .before .before .before .before .before .before .before .before .before .before .before .before .before .before .before .before .before .before .before .before .before .loop .s)
+        (c .before .before .before .before .before .before .before .before .before .before .before .before .before .before .before .before .before .before .before .before .before .before .before .before .before .before .before .before .before .before .before .before .before .before .before .before .before .loop .edits) in
     let pool = c .before .before .before .before .before .before .before .before .before .before .before .before .before .before .before .before .before .before .before .before .before .before .before .before .before .before .before .before .before .before .before .before .before .before .before .before .before .before .before .before .before .before .before .args .pool .now in
     (withEdits (c .before .loop8 .s) (c .before .before .before .before .before .before .before .before .before .before .before .before .before .loop3 .edits) ≡ renderedIn pool b s) × (take (c .before .before .before .before .before .cleared-places .result) (c .before .loop8 .mix) ≡ rowIn pool b s))
 summed c =
@@ -340,13 +364,17 @@ returns-2 c = ends-short _ _ _ _ _ _ _ (rested (c .before .before .before .befor
 
 same-length-3 : tie.Need-same-length-3 Inv-loop2 μ-loop2 Inv-loop4 μ-loop4 Inv-loop5 μ-loop5 Inv-loop6 μ-loop6 Inv-loop3 μ-loop3 Inv-loop7 μ-loop7 Inv-loop8 μ-loop8 Inv-loop9 μ-loop9 Inv-loop10 μ-loop10 Inv-loop12 μ-loop12 Inv-loop11 μ-loop11 Inv-loop13 μ-loop13 Inv-loop μ-loop
 same-length-3 c =
-    let o = c .before .before .before .before .before .before .before .before .before .before .before .before .leave .last .1 .1 .1 .1 .0 in
-    let x = ending (c .before .before .before .before .before .before .before .before .before .before .before .before .before .before .before .before .before .before .before .before .before .args .form) (c .before .before .before .before .before .read .result) (countsOf (c .before .before .before .before .before .before .before .before .before .before .before .before .before .before .before .loop .s)) (length o - c .before .before .before .before .before .before .before .before .before .before .before .before .leave .result) .written in
-    ap length (c .before .before .unread .ensures .1 .1 (rested-within (c .before .before .before .before .before .before .before .before .before .before .before .before)) .1 .1 .0) ∙ length-sets {A = ℕ} o (c .before .before .before .before .before .before .before .before .before .before .before .before .leave .result) x ∙ same-rest _ _ _ _ _ _ _ (rested (c .before .before .before .before .before .before .before .before .before .before .before .before))
+    let c₁ = c .before .before .before .before .before .before .before .before .before in
+    let c₂ = c₁ .before .before .before .before .before .before .before .before .before in
+    let o = c₁ .before .before .before .leave .last .1 .1 .1 .1 .0 in
+    let x = ending (c₂ .before .before .before .args .form) (c .before .before .before .before .before .read .result) (countsOf (c₁ .before .before .before .before .before .before .loop .s)) (length o - c₁ .before .before .before .leave .result) .written in
+    ap length (c .before .before .unread .ensures .1 .1 (rested-within (c₁ .before .before .before)) .1 .1 .0) ∙ length-sets {A = ℕ} o (c₁ .before .before .before .leave .result) x ∙ same-rest _ _ _ _ _ _ _ (rested (c₁ .before .before .before))
 
 returns-3 : tie.Need-returns-3 Inv-loop2 μ-loop2 Inv-loop4 μ-loop4 Inv-loop5 μ-loop5 Inv-loop6 μ-loop6 Inv-loop3 μ-loop3 Inv-loop7 μ-loop7 Inv-loop8 μ-loop8 Inv-loop9 μ-loop9 Inv-loop10 μ-loop10 Inv-loop12 μ-loop12 Inv-loop11 μ-loop11 Inv-loop13 μ-loop13 Inv-loop μ-loop
 returns-3 c =
-    ends-unread _ _ _ _ _ _ _ (rested (c .before .before .before .before .before .before .before .before .before .before .before .before)) (c .before .before .before .before .before .before .before .before .if1 .left) (sym (c .before .before .before .before .before .before .before .is-short .ensures) ∙ c .before .before .before .before .before .before .if2 .left) (c .before .before .before .before .before .read .result) (c .before .before .before .before .before .read .ensures) (not-record (c .before .before .before .before .before .read .result) (c .before .before .before .before .match .keys2)) (c .before .before .unread .ensures .1 .1 (rested-within (c .before .before .before .before .before .before .before .before .before .before .before .before)))
+    let c₁ = c .before .before .before .before .before .before .before .before .before in
+    ends-unread _ _ _ _ _ _ _ (rested (c₁ .before .before .before)) (c .before .before .before .before .before .before .before .before .if1 .left) (sym (c .before .before .before .before .before .before .before .is-short .ensures) ∙ c .before .before .before .before .before .before .if2 .left) (c .before .before .before .before .before .read .result)
+        (c .before .before .before .before .before .read .ensures) (not-record (c .before .before .before .before .before .read .result) (c .before .before .before .before .match .keys2)) (c .before .before .unread .ensures .1 .1 (rested-within (c₁ .before .before .before)))
 
 sub-is-full : tie.Need-sub-is-full Inv-loop2 μ-loop2 Inv-loop4 μ-loop4 Inv-loop5 μ-loop5 Inv-loop6 μ-loop6 Inv-loop3 μ-loop3 Inv-loop7 μ-loop7 Inv-loop8 μ-loop8 Inv-loop9 μ-loop9 Inv-loop10 μ-loop10 Inv-loop12 μ-loop12 Inv-loop11 μ-loop11 Inv-loop13 μ-loop13 Inv-loop μ-loop
 sub-is-full c =
@@ -358,9 +386,11 @@ same-length-4 c =
 
 returns-4 : tie.Need-returns-4 Inv-loop2 μ-loop2 Inv-loop4 μ-loop4 Inv-loop5 μ-loop5 Inv-loop6 μ-loop6 Inv-loop3 μ-loop3 Inv-loop7 μ-loop7 Inv-loop8 μ-loop8 Inv-loop9 μ-loop9 Inv-loop10 μ-loop10 Inv-loop12 μ-loop12 Inv-loop11 μ-loop11 Inv-loop13 μ-loop13 Inv-loop μ-loop
 returns-4 c =
+    let c₁ = c .before .before .before .before .before .before .before .before .before in
     let v = c .before .before .before .r .given .0 in
-    ends-full-lines _ _ _ _ _ _ _ (rested (c .before .before .before .before .before .before .before .before .before .before .before .before)) (c .before .before .before .before .before .before .before .before .if1 .left) (sym (c .before .before .before .before .before .before .before .is-short .ensures) ∙ c .before .before .before .before .before .before .if2 .left) (v .0) (v .1 .0) (v .1 .1 .0) (sym (c .before .before .before .before .before .read .ensures) ∙ c .before .before .before .r .given .1) _ _ refl refl
-    (roomy _ _ _ _ _ _ _ (rested (c .before .before .before .before .before .before .before .before .before .before .before .before)) (sym (c .before .is-full .ensures) ∙ c .if3 .taken))
+    ends-full-lines _ _ _ _ _ _ _ (rested (c₁ .before .before .before)) (c .before .before .before .before .before .before .before .before .if1 .left) (sym (c .before .before .before .before .before .before .before .is-short .ensures) ∙ c .before .before .before .before .before .before .if2 .left) (v .0) (v .1 .0) (v .1 .1 .0)
+        (sym (c .before .before .before .before .before .read .ensures) ∙ c .before .before .before .r .given .1) _ _ refl refl
+    (roomy _ _ _ _ _ _ _ (rested (c₁ .before .before .before)) (sym (c .before .is-full .ensures) ∙ c .if3 .taken))
 
 sub-plan-of : tie.Need-sub-plan-of Inv-loop2 μ-loop2 Inv-loop4 μ-loop4 Inv-loop5 μ-loop5 Inv-loop6 μ-loop6 Inv-loop3 μ-loop3 Inv-loop7 μ-loop7 Inv-loop8 μ-loop8 Inv-loop9 μ-loop9 Inv-loop10 μ-loop10 Inv-loop12 μ-loop12 Inv-loop11 μ-loop11 Inv-loop13 μ-loop13 Inv-loop μ-loop
 sub-plan-of c =
@@ -380,9 +410,10 @@ same-length-5 c =
 
 returns-5 : tie.Need-returns-5 Inv-loop2 μ-loop2 Inv-loop4 μ-loop4 Inv-loop5 μ-loop5 Inv-loop6 μ-loop6 Inv-loop3 μ-loop3 Inv-loop7 μ-loop7 Inv-loop8 μ-loop8 Inv-loop9 μ-loop9 Inv-loop10 μ-loop10 Inv-loop12 μ-loop12 Inv-loop11 μ-loop11 Inv-loop13 μ-loop13 Inv-loop μ-loop
 returns-5 c =
+    let c₁ = c .before .before .before .before .before .before .before .before .before in
     let v = c .before .before .before .before .before .before .before .before .r .given .0 in
     let m = told (c .before .before) (c .enum-told .given .1) in
-    ends-full-bytes _ _ _ _ _ _ _ (rested (c .before .before .before .before .before .before .before .before .before .before .before .before .before .before .before .before .before)) (c .before .before .before .before .before .before .before .before .before .before .before .before .before .if1 .left) (sym (c .before .before .before .before .before .before .before .before .before .before .before .before .is-short .ensures) ∙ c .before .before .before .before .before .before .before .before .before .before .before .if2 .left) (v .0) (v .1 .0) (v .1 .1 .0) (reads (c .before .before)) _ _ refl refl (roomy-in (c .before .before)) (m .1) (m .0)
+    ends-full-bytes _ _ _ _ _ _ _ (rested (c₁ .before .before .before .before .before .before .before .before)) (c₁ .before .before .before .before .if1 .left) (sym (c₁ .before .before .before .is-short .ensures) ∙ c₁ .before .before .if2 .left) (v .0) (v .1 .0) (v .1 .1 .0) (reads (c .before .before)) _ _ refl refl (roomy-in (c .before .before)) (m .1) (m .0)
 
 mul-event : tie.Need-mul-event Inv-loop2 μ-loop2 Inv-loop4 μ-loop4 Inv-loop5 μ-loop5 Inv-loop6 μ-loop6 Inv-loop3 μ-loop3 Inv-loop7 μ-loop7 Inv-loop8 μ-loop8 Inv-loop9 μ-loop9 Inv-loop10 μ-loop10 Inv-loop12 μ-loop12 Inv-loop11 μ-loop11 Inv-loop13 μ-loop13 Inv-loop μ-loop
 mul-event c =
@@ -414,8 +445,10 @@ loop-less-2 c = less (c .before .before .before .before .before)
 
 loop-again-2 : tie.Need-loop-again-2 Inv-loop2 μ-loop2 Inv-loop4 μ-loop4 Inv-loop5 μ-loop5 Inv-loop6 μ-loop6 Inv-loop3 μ-loop3 Inv-loop7 μ-loop7 Inv-loop8 μ-loop8 Inv-loop9 μ-loop9 Inv-loop10 μ-loop10 Inv-loop12 μ-loop12 Inv-loop11 μ-loop11 Inv-loop13 μ-loop13 Inv-loop μ-loop
 loop-again-2 c =
+    let c₁ = c .before .before .before .before .before .before .before .before .before in
+    let c₂ = c₁ .before .before .before .before .before .before .before .before .before in
     let m = told (c .before .before .before .before .before) (c .before .before .before .plan2 .given .1) in
-    on-silent (c .before .before .before .before .before) (m .0) (m .1) _ (c .before .before .before .before .before .before .before .silent .ensures) _ (entered-active (withEdits (c .before .before .before .before .before .before .before .before .before .before .before .before .before .before .before .before .before .before .before .before .before .before .before .loop .s) (c .before .before .before .before .before .before .before .before .before .before .before .before .before .before .before .before .before .before .before .before .before .before .before .loop .edits)) (c .before .before .before .plan2 .given .0 .0) (m .2) (c .wrapping-add-u64 .ensures))
+    on-silent (c .before .before .before .before .before) (m .0) (m .1) _ (c .before .before .before .before .before .before .before .silent .ensures) _ (entered-active (withEdits (c₂ .before .before .before .before .before .loop .s) (c₂ .before .before .before .before .before .loop .edits)) (c .before .before .before .plan2 .given .0 .0) (m .2) (c .wrapping-add-u64 .ensures))
 
 loop2-holds : tie.Need-loop2-holds Inv-loop2 μ-loop2 Inv-loop4 μ-loop4 Inv-loop5 μ-loop5 Inv-loop6 μ-loop6 Inv-loop3 μ-loop3 Inv-loop7 μ-loop7 Inv-loop8 μ-loop8 Inv-loop9 μ-loop9 Inv-loop10 μ-loop10 Inv-loop12 μ-loop12 Inv-loop11 μ-loop11 Inv-loop13 μ-loop13 Inv-loop μ-loop
 loop2-holds c = (told (c .before .before .before) (c .before .plan3 .given .1) .2, rising-in)
@@ -428,11 +461,15 @@ loop-less-3 c = less (c .before .before .before .before .before .before)
 
 loop-again-3 : tie.Need-loop-again-3 Inv-loop2 μ-loop2 Inv-loop4 μ-loop4 Inv-loop5 μ-loop5 Inv-loop6 μ-loop6 Inv-loop3 μ-loop3 Inv-loop7 μ-loop7 Inv-loop8 μ-loop8 Inv-loop9 μ-loop9 Inv-loop10 μ-loop10 Inv-loop12 μ-loop12 Inv-loop11 μ-loop11 Inv-loop13 μ-loop13 Inv-loop μ-loop
 loop-again-3 c =
+    let c₁ = c .before .before .before .before .before .before .before .before .before in
+    let c₂ = c₁ .before .before .before .before .before .before .before .before .before in
     let m = told (c .before .before .before .before .before .before) (c .before .before .before .before .plan3 .given .1) in
     let i = c .before .before .loop2 .inv in
     let g = ⊎-elim (λ w. risen-in-root (i .0) (w .left) (i .1)) (λ w. risen-in-stop (i .0) (sym (w .2 .ensures) ∙ not-true _ (w .3 .taken)) (i .1)) (c .before .loop2-test .came) in
-    let y : Sequencer → Sequencer = λ x. withEdits x (c .before .before .before .before .before .before .before .before .before .before .before .before .before .before .before .before .before .before .before .before .before .before .before .before .loop .edits) in
-    on-silent (c .before .before .before .before .before .before) (m .0) (m .1) _ (c .before .before .before .before .before .before .before .before .silent .ensures) _ (entered-ready (y (c .before .before .before .before .before .before .before .before .before .before .before .before .before .before .before .before .before .before .before .before .before .before .before .before .loop .s)) (y (c .before .before .loop2 .s)) _ (c .before .before .before .before .plan3 .given .0 .0) (ap y (i .1 .same)) (ap y g ∙ pushed-beside (c .before .before .before .before .before .before .before .before .before .before .before .before .before .before .before .before .before .before .before .before .before .before .before .before .loop .s) (c .before .before .before .before .before .before .before .before .before .before .before .before .before .before .before .before .before .before .before .before .before .before .before .before .loop .edits) (c .before .before .before .before .plan3 .given .0
+    let y : Sequencer → Sequencer = λ x. withEdits x (c₂ .before .before .before .before .before .before .loop .edits) in
+    on-silent (c .before .before .before .before .before .before) (m .0) (m .1) _ (c .before .before .before .before .before .before .before .before .silent .ensures) _
+        (entered-ready (y (c₂ .before .before .before .before .before .before .loop .s)) (y (c .before .before .loop2 .s)) _ (c .before .before .before .before .plan3 .given .0 .0) (ap y (i .1 .same))
+        (ap y g ∙ pushed-beside (c₂ .before .before .before .before .before .before .loop .s) (c₂ .before .before .before .before .before .before .loop .edits) (c .before .before .before .before .plan3 .given .0
     .0)) (c .wrapping-add-u642 .ensures))
 
 loop3-holds : tie.Need-loop3-holds Inv-loop2 μ-loop2 Inv-loop4 μ-loop4 Inv-loop5 μ-loop5 Inv-loop6 μ-loop6 Inv-loop3 μ-loop3 Inv-loop7 μ-loop7 Inv-loop8 μ-loop8 Inv-loop9 μ-loop9 Inv-loop10 μ-loop10 Inv-loop12 μ-loop12 Inv-loop11 μ-loop11 Inv-loop13 μ-loop13 Inv-loop μ-loop
@@ -537,8 +574,10 @@ loop7-less c =
 
 loop7-again : tie.Need-loop7-again Inv-loop2 μ-loop2 Inv-loop4 μ-loop4 Inv-loop5 μ-loop5 Inv-loop6 μ-loop6 Inv-loop3 μ-loop3 Inv-loop7 μ-loop7 Inv-loop8 μ-loop8 Inv-loop9 μ-loop9 Inv-loop10 μ-loop10 Inv-loop12 μ-loop12 Inv-loop11 μ-loop11 Inv-loop13 μ-loop13 Inv-loop μ-loop
 loop7-again c =
-    let h = inside (c .before .before .before .before .before .before .before .before .before) in
-    ended-room (c .before .before .before .before .before .before .before .before .before .before .before .before .before .before .before .before .before .before .before .plan4 .given .0 .0 .limit) (withEdits (c .before .before .before .before .before .before .before .before .before .before .before .loop7 .s) (c .before .before .before .before .before .before .before .before .before .before .before .before .before .before .before .loop3 .edits)) (c .before .before .before .before .before .before .before .before .before .before .before .loop7 .i) _ (c .before .before .before .before .after .ensures) (h .0) (h .1) (c .before .before .before .before .before .if11 .taken) (c .if12 .taken) (c .before .before .before .before .before .before .before .before .before .before .before .loop7 .inv)
+    let c₁ = c .before .before .before .before .before .before .before .before .before in
+    let c₂ = c₁ .before .before .before .before .before .before .before .before .before in
+    let h = inside (c₁) in
+    ended-room (c₂ .before .plan4 .given .0 .0 .limit) (withEdits (c₁ .before .before .loop7 .s) (c₁ .before .before .before .before .before .before .loop3 .edits)) (c₁ .before .before .loop7 .i) _ (c .before .before .before .before .after .ensures) (h .0) (h .1) (c .before .before .before .before .before .if11 .taken) (c .if12 .taken) (c₁ .before .before .loop7 .inv)
 
 loop7-less-2 : tie.Need-loop7-less-2 Inv-loop2 μ-loop2 Inv-loop4 μ-loop4 Inv-loop5 μ-loop5 Inv-loop6 μ-loop6 Inv-loop3 μ-loop3 Inv-loop7 μ-loop7 Inv-loop8 μ-loop8 Inv-loop9 μ-loop9 Inv-loop10 μ-loop10 Inv-loop12 μ-loop12 Inv-loop11 μ-loop11 Inv-loop13 μ-loop13 Inv-loop μ-loop
 loop7-less-2 c =
@@ -547,8 +586,10 @@ loop7-less-2 c =
 
 loop7-again-2 : tie.Need-loop7-again-2 Inv-loop2 μ-loop2 Inv-loop4 μ-loop4 Inv-loop5 μ-loop5 Inv-loop6 μ-loop6 Inv-loop3 μ-loop3 Inv-loop7 μ-loop7 Inv-loop8 μ-loop8 Inv-loop9 μ-loop9 Inv-loop10 μ-loop10 Inv-loop12 μ-loop12 Inv-loop11 μ-loop11 Inv-loop13 μ-loop13 Inv-loop μ-loop
 loop7-again-2 c =
-    let h = inside (c .before .before .before .before .before .before .before .before .before) in
-    ended-full (c .before .before .before .before .before .before .before .before .before .before .before .before .before .before .before .before .before .before .before .plan4 .given .0 .0 .limit) (withEdits (c .before .before .before .before .before .before .before .before .before .before .before .loop7 .s) (c .before .before .before .before .before .before .before .before .before .before .before .before .before .before .before .loop3 .edits)) (c .before .before .before .before .before .before .before .before .before .before .before .loop7 .i) _ (c .before .before .before .before .after .ensures) (h .0) (h .1) (c .before .before .before .before .before .if11 .taken) (c .if12 .left) (c .before .before .before .before .before .before .before .before .before .before .before .loop7 .inv)
+    let c₁ = c .before .before .before .before .before .before .before .before .before in
+    let c₂ = c₁ .before .before .before .before .before .before .before .before .before in
+    let h = inside (c₁) in
+    ended-full (c₂ .before .plan4 .given .0 .0 .limit) (withEdits (c₁ .before .before .loop7 .s) (c₁ .before .before .before .before .before .before .loop3 .edits)) (c₁ .before .before .loop7 .i) _ (c .before .before .before .before .after .ensures) (h .0) (h .1) (c .before .before .before .before .before .if11 .taken) (c .if12 .left) (c₁ .before .before .loop7 .inv)
 
 loop7-less-3 : tie.Need-loop7-less-3 Inv-loop2 μ-loop2 Inv-loop4 μ-loop4 Inv-loop5 μ-loop5 Inv-loop6 μ-loop6 Inv-loop3 μ-loop3 Inv-loop7 μ-loop7 Inv-loop8 μ-loop8 Inv-loop9 μ-loop9 Inv-loop10 μ-loop10 Inv-loop12 μ-loop12 Inv-loop11 μ-loop11 Inv-loop13 μ-loop13 Inv-loop μ-loop
 loop7-less-3 c =
@@ -557,22 +598,27 @@ loop7-less-3 c =
 
 loop7-again-3 : tie.Need-loop7-again-3 Inv-loop2 μ-loop2 Inv-loop4 μ-loop4 Inv-loop5 μ-loop5 Inv-loop6 μ-loop6 Inv-loop3 μ-loop3 Inv-loop7 μ-loop7 Inv-loop8 μ-loop8 Inv-loop9 μ-loop9 Inv-loop10 μ-loop10 Inv-loop12 μ-loop12 Inv-loop11 μ-loop11 Inv-loop13 μ-loop13 Inv-loop μ-loop
 loop7-again-3 c =
+    let c₁ = c .before .before .before .before .before .before .before .before .before in
     let h = inside (c .before .before .before .before .before) in
-    not-ended (c .before .before .before .before .before .before .before .before .before .before .before .before .before .before .before .plan4 .given .0 .0 .limit) (withEdits (c .before .before .before .before .before .before .before .loop7 .s) (c .before .before .before .before .before .before .before .before .before .before .before .loop3 .edits)) (c .before .before .before .before .before .before .before .loop7 .i) _ (c .after2 .ensures) (h .0) (h .1) (c .before .if11 .left) (c .before .before .before .before .before .before .before .loop7 .inv)
+    not-ended (c₁ .before .before .before .before .before .before .plan4 .given .0 .0 .limit) (withEdits (c .before .before .before .before .before .before .before .loop7 .s) (c₁ .before .before .loop3 .edits)) (c .before .before .before .before .before .before .before .loop7 .i) _ (c .after2 .ensures) (h .0) (h .1) (c .before .if11 .left)
+        (c .before .before .before .before .before .before .before .loop7 .inv)
 
 loop8-holds : tie.Need-loop8-holds Inv-loop2 μ-loop2 Inv-loop4 μ-loop4 Inv-loop5 μ-loop5 Inv-loop6 μ-loop6 Inv-loop3 μ-loop3 Inv-loop7 μ-loop7 Inv-loop8 μ-loop8 Inv-loop9 μ-loop9 Inv-loop10 μ-loop10 Inv-loop12 μ-loop12 Inv-loop11 μ-loop11 Inv-loop13 μ-loop13 Inv-loop μ-loop
 unfolding ofBits
 loop8-holds c =
-    let m = c .before .before .before .before .before .before .before .before .before .before .before .before .before .before .before .before .before .before .before .before .before .before .before .before .before .before .before .before .before .before .before .before .before .before .before .loop .mix in
+    let c₁ = c .before .before .before .before .before .before .before .before .before in
+    let c₂ = c₁ .before .before .before .before .before .before .before .before .before in
+    let c₃ = c₂ .before .before .before .before .before .before .before .before .before in
+    let m = c₃ .before .before .before .before .before .before .before .before .loop .mix in
     let k = c .before .before .before .cleared-places .result in
     let r = c .before .set-all in
     let ys = r .last .0 in
     let kept = r .kept .0 in
-    let h : k ≤ length m = omega (arith, c .before .before .before .cleared-places .ensures, c .before .before .before .before .before .before .before .before .before .before .before .before .before .before .before .before .before .before .before .before .before .before .before .before .before .before .before .before .before .before .before .before .before .before .before .loop .inv .wide) in
+    let h : k ≤ length m = omega (arith, c .before .before .before .cleared-places .ensures, c₃ .before .before .before .before .before .before .before .before .loop .inv .wide) in
     let n : length (take (k - 0) m) ≡ k = rw sub-zero (length-take-le k m h) in
     let q : take k (ys ++ drop (k - 0) m) ≡ ys = take-at ys (drop (k - 0) m) k (kept ∙ n) in
-    let v : ys ≡ replicate (clearedPlaces (c .before .before .before .before .before .before .before .before .before .before .before .before .before .before .before .plan4 .given .0 .0 .size)) zeroᶠ = r .ensures ∙ ap (λ (j : ℕ). replicate j zeroᶠ) (n ∙ c .before .before .before .cleared-places .ensures) in
-    (passing-start (c .before .before .before .before .least .ensures) (q ∙ v), same-len-mid 0 (k - 0) m ys kept ∙ c .before .before .before .before .before .before .before .before .before .before .before .before .before .before .before .before .before .before .before .before .before .before .before .before .before .before .before .before .before .before .before .before .before .before .before .loop .inv .wide)
+    let v : ys ≡ replicate (clearedPlaces (c₁ .before .before .before .before .before .before .plan4 .given .0 .0 .size)) zeroᶠ = r .ensures ∙ ap (λ (j : ℕ). replicate j zeroᶠ) (n ∙ c .before .before .before .cleared-places .ensures) in
+    (passing-start (c .before .before .before .before .least .ensures) (q ∙ v), same-len-mid 0 (k - 0) m ys kept ∙ c₃ .before .before .before .before .before .before .before .before .loop .inv .wide)
 
 mul-event-5 : tie.Need-mul-event-5 Inv-loop2 μ-loop2 Inv-loop4 μ-loop4 Inv-loop5 μ-loop5 Inv-loop6 μ-loop6 Inv-loop3 μ-loop3 Inv-loop7 μ-loop7 Inv-loop8 μ-loop8 Inv-loop9 μ-loop9 Inv-loop10 μ-loop10 Inv-loop12 μ-loop12 Inv-loop11 μ-loop11 Inv-loop13 μ-loop13 Inv-loop μ-loop
 mul-event-5 c = omega (arith, c .before .loop8 .inv .0 .count, c .loop8-test .taken)
@@ -606,15 +652,20 @@ way-write-given-s-2 c =
 
 loop8-again : tie.Need-loop8-again Inv-loop2 μ-loop2 Inv-loop4 μ-loop4 Inv-loop5 μ-loop5 Inv-loop6 μ-loop6 Inv-loop3 μ-loop3 Inv-loop7 μ-loop7 Inv-loop8 μ-loop8 Inv-loop9 μ-loop9 Inv-loop10 μ-loop10 Inv-loop12 μ-loop12 Inv-loop11 μ-loop11 Inv-loop13 μ-loop13 Inv-loop μ-loop
 loop8-again c =
+    let c₁ = c .before .before .before .before .before .before .before .before .before in
+    let c₂ = c₁ .before .before .before .before .before .before .before .before .before in
+    let c₃ = c₂ .before .before .before .before .before .before .before .before .before in
+    let c₄ = c₃ .before .before .before .before .before .before .before .before .before in
+    let c₅ = c₄ .before .before .before .before .before .before .before .before .before in
     let l = c .before .before .before .before .before .before .before .loop8 in
-    let k = c .before .before .before .before .before .before .before .before .before .before .before .cleared-places .result in
+    let k = c₁ .before .before .cleared-places .result in
     let r = c .before .before .before .sound in
     let ys = r .last .1 .1 .1 .0 in
     let kept = r .kept .1 .1 .1 .0 in
-    let h : k ≤ length (l .mix) = omega (arith, c .before .before .before .before .before .before .before .before .before .before .before .cleared-places .ensures, l .inv .1) in
+    let h : k ≤ length (l .mix) = omega (arith, c₁ .before .before .cleared-places .ensures, l .inv .1) in
     let q : take k (ys ++ drop (k - 0) (l .mix)) ≡ ys = take-at ys (drop (k - 0) (l .mix)) k (kept ∙ rw sub-zero (length-take-le k (l .mix) h)) in
-    let v : ys ≡ soundedRow (c .before .before .before .before .before .before .before .before .before .before .before .before .before .before .before .before .before .before .before .before .before .before .before .before .before .before .before .before .before .before .before .before .before .before .before .before .before .before .before .before .before .before .before .before .before .before .before .before .before .args .pool .now) (c .before .before .before .before .before .before .before .before .before .before .before .before .before .before .before .before .before .before .before .before .before .before .before .plan4 .given .0 .0) (take k (l .mix)) (getD (l .s .active) (l .k) blank) = r .ensures .1 ∙ rw sub-zero in
-    (passing-moved (c .before .before .before .before .before .before .before .before .before .before .before .before .before .before .before .before .before .before .before .before .before .before .before .plan4 .given .0 .0) (r .ensures .0) (q ∙ v) (c .before .before .before .before .before .before .loop8-test .taken) (l .inv .0), same-len-mid 0 (k - 0) (l .mix) ys kept ∙ l .inv .1)
+    let v : ys ≡ soundedRow (c₅ .before .before .before .before .args .pool .now) (c₂ .before .before .before .before .before .plan4 .given .0 .0) (take k (l .mix)) (getD (l .s .active) (l .k) blank) = r .ensures .1 ∙ rw sub-zero in
+    (passing-moved (c₂ .before .before .before .before .before .plan4 .given .0 .0) (r .ensures .0) (q ∙ v) (c .before .before .before .before .before .before .loop8-test .taken) (l .inv .0), same-len-mid 0 (k - 0) (l .mix) ys kept ∙ l .inv .1)
 
 add-k : tie.Need-add-k Inv-loop2 μ-loop2 Inv-loop4 μ-loop4 Inv-loop5 μ-loop5 Inv-loop6 μ-loop6 Inv-loop3 μ-loop3 Inv-loop7 μ-loop7 Inv-loop8 μ-loop8 Inv-loop9 μ-loop9 Inv-loop10 μ-loop10 Inv-loop12 μ-loop12 Inv-loop11 μ-loop11 Inv-loop13 μ-loop13 Inv-loop μ-loop
 add-k c = record { fits = omega (arith, c .before .before .before .before .before .before .before .loop8 .inv .0 .count, c .before .before .before .before .before .before .loop8-test .taken) }
@@ -628,13 +679,17 @@ loop-less-4 c =
 
 loop-again-4 : tie.Need-loop-again-4 Inv-loop2 μ-loop2 Inv-loop4 μ-loop4 Inv-loop5 μ-loop5 Inv-loop6 μ-loop6 Inv-loop3 μ-loop3 Inv-loop7 μ-loop7 Inv-loop8 μ-loop8 Inv-loop9 μ-loop9 Inv-loop10 μ-loop10 Inv-loop12 μ-loop12 Inv-loop11 μ-loop11 Inv-loop13 μ-loop13 Inv-loop μ-loop
 loop-again-4 c =
-    let v = c .before .before .before .before .before .before .before .before .before .before .before .before .before .before .before .before .before .before .before .before .before .before .before .before .before .r .given .0 in
-    let l = c .before .before .before .before .before .before .before .before .before .before .before .before .before .before .before .before .before .before .before .before .before .before .before .before .before .before .before .before .before .before .before .before .before .before .before .before .before .loop in
-    let b = c .before .before .before .before .before .before .before .before .before .before .before .before .before .before .before .before .before .plan4 .given .0 .0 in
+    let c₁ = c .before .before .before .before .before .before .before .before .before in
+    let c₂ = c₁ .before .before .before .before .before .before .before .before .before in
+    let c₃ = c₂ .before .before .before .before .before .before .before .before .before in
+    let c₄ = c₃ .before .before .before .before .before .before .before .before .before in
+    let v = c₂ .before .before .before .before .before .before .before .r .given .0 in
+    let l = c₄ .before .loop in
+    let b = c₁ .before .before .before .before .before .before .before .before .plan4 .given .0 .0 in
     let s = withEdits (l .s) (l .edits) in
-    let pool = c .before .before .before .before .before .before .before .before .before .before .before .before .before .before .before .before .before .before .before .before .before .before .before .before .before .before .before .before .before .before .before .before .before .before .before .before .before .before .before .before .before .before .before .args .pool .now in
+    let pool = c₄ .before .before .before .before .before .before .before .args .pool .now in
     let mix = c .before .loop8 .mix in
-    let g = renders-in (c .before .before .before .before .before .before .before .before .before .before .before .before .before .before .before .before .before) in
+    let g = renders-in (c₁ .before .before .before .before .before .before .before .before) in
     let o = appliedOut pool s (v .1 .0) (l .inv .samples) in
     let d = summed c in
     let k = c .before .before .before .before .before .cleared-places .result in
@@ -643,9 +698,9 @@ loop-again-4 c =
     let y : length (rowIn pool b s) ≡ k = ap length (sym (d .1)) ∙ length-take-le k mix h in
     let rows = rows-alike (b .channels) (b .size) (strideOf b) (rowIn pool b s) mix o (ap (take (b .size)) (sym (d .1)) ∙ take-take (b .size) k mix z) (g .shown (omega (arith, y, z))) in
     let n = length-sound (b .channels) (b .size) (strideOf b) o (g .wide) (omega (arith, g .inside, g .long)) in
-    goes-on _ _ _ _ _ _ _ (rested (c .before .before .before .before .before .before .before .before .before .before .before .before .before .before .before .before .before .before .before .before .before .before .before .before .before .before .before .before .before .before .before .before .before .before)) (c .before .before .before .before .before .before .before .before .before .before .before .before .before .before .before .before .before .before .before .before .before .before .before .before .before .before .before .before .before .before .if1 .left) (sym (c .before .before .before .before .before .before .before .before .before .before .before .before .before .before .before .before .before .before .before .before .before .before .before .before .before .before .before .before .before .is-short .ensures) ∙ c .before .before .before .before .before .before .before .before .before .before .before .before .before .before .before .before .before .before .before .before .before .before .before .before .before .before .before .before .if2 .left) (v .0) (v .1 .0) (v .1 .1 .0) (reads (c .before .before .before .before .before .before .before .before .before .before .before .before .before .before .before .before .before .before .before)) (heardIn pool b s) o (sym (g .gives)) refl (g .long)
-    mix (c .before .loop8 .inv .1) (g .small) (g .few) rows (roomy-in (c .before .before .before .before .before .before .before .before .before .before .before .before .before .before .before .before .before .before .before)) (omega (arith, n, g .fits))
-    _ (ap (withSamples b) (c .before .before .before .before .before .before .before .before .before .before .before .before .before .before .before .before .before .before .before .before .before .silent .ensures)) _ (d .0)
+    goes-on _ _ _ _ _ _ _ (rested (c₃ .before .before .before .before .before .before .before)) (c₃ .before .before .before .if1 .left) (sym (c₃ .before .before .is-short .ensures) ∙ c₃ .before .if2 .left) (v .0) (v .1 .0) (v .1 .1 .0) (reads (c₂ .before)) (heardIn pool b s) o (sym (g .gives)) refl (g .long)
+    mix (c .before .loop8 .inv .1) (g .small) (g .few) rows (roomy-in (c₂ .before)) (omega (arith, n, g .fits))
+    _ (ap (withSamples b) (c₂ .before .before .before .silent .ensures)) _ (d .0)
 
 -- ---- edits
 
@@ -654,7 +709,8 @@ loop4-holds c = (counted-few (c .before .before .before .before .before .loop3 .
 
 loop4-again : tie.Need-loop4-again Inv-loop2 μ-loop2 Inv-loop4 μ-loop4 Inv-loop5 μ-loop5 Inv-loop6 μ-loop6 Inv-loop3 μ-loop3 Inv-loop7 μ-loop7 Inv-loop8 μ-loop8 Inv-loop9 μ-loop9 Inv-loop10 μ-loop10 Inv-loop12 μ-loop12 Inv-loop11 μ-loop11 Inv-loop13 μ-loop13 Inv-loop μ-loop
 loop4-again c =
-    (c .before .before .before .before .before .before .loop4 .inv .0, seeking-on noEdit (isEdit (getD (c .before .before .before .before .before .before .before .before .before .before .before .before .loop3 .s .ready) 0 blank .id)) _ _ _ _ (c .before .before .before .before .before .loop4-test .taken) (ne-eqb _ _ (c .if6 .left)) (c .before .before .before .before .before .before .loop4 .inv .1))
+    (c .before .before .before .before .before .before .loop4 .inv .0, seeking-on noEdit (isEdit (getD (c .before .before .before .before .before .before .before .before .before .before .before .before .loop3 .s .ready) 0 blank .id)) _ _ _ _ (c .before .before .before .before .before .loop4-test .taken) (ne-eqb _ _ (c .if6 .left))
+        (c .before .before .before .before .before .before .loop4 .inv .1))
 
 sub-m : tie.Need-sub-m Inv-loop2 μ-loop2 Inv-loop4 μ-loop4 Inv-loop5 μ-loop5 Inv-loop6 μ-loop6 Inv-loop3 μ-loop3 Inv-loop7 μ-loop7 Inv-loop8 μ-loop8 Inv-loop9 μ-loop9 Inv-loop10 μ-loop10 Inv-loop12 μ-loop12 Inv-loop11 μ-loop11 Inv-loop13 μ-loop13 Inv-loop μ-loop
 sub-m c = omega (arith, c .before .before .before .if7 .taken)
@@ -669,13 +725,16 @@ loop5-again c = (c .before .before .loop5 .inv .0, shifting-on noEdit _ _ _ _ (c
 
 loop9-holds : tie.Need-loop9-holds Inv-loop2 μ-loop2 Inv-loop4 μ-loop4 Inv-loop5 μ-loop5 Inv-loop6 μ-loop6 Inv-loop3 μ-loop3 Inv-loop7 μ-loop7 Inv-loop8 μ-loop8 Inv-loop9 μ-loop9 Inv-loop10 μ-loop10 Inv-loop12 μ-loop12 Inv-loop11 μ-loop11 Inv-loop13 μ-loop13 Inv-loop μ-loop
 loop9-holds c =
-    (counted-few (c .before .before .before .before .before .before .before .before .before .before .before .before .before .before .before .before .before .before .before .before .before .before .loop .s .«active_len») (c .counted2 .ensures), seeking-id (c .before .before .before .before .before .before .before .before .before .before .before .before .before .before .before .before .before .before .before .before .before .before .loop .s) _ (c .counted2 .ensures))
+    let c₁ = c .before .before .before .before .before .before .before .before .before in
+    let c₂ = c₁ .before .before .before .before .before .before .before .before .before in
+    (counted-few (c₂ .before .before .before .before .loop .s .«active_len») (c .counted2 .ensures), seeking-id (c₂ .before .before .before .before .loop .s) _ (c .counted2 .ensures))
 
 loop9-again : tie.Need-loop9-again Inv-loop2 μ-loop2 Inv-loop4 μ-loop4 Inv-loop5 μ-loop5 Inv-loop6 μ-loop6 Inv-loop3 μ-loop3 Inv-loop7 μ-loop7 Inv-loop8 μ-loop8 Inv-loop9 μ-loop9 Inv-loop10 μ-loop10 Inv-loop12 μ-loop12 Inv-loop11 μ-loop11 Inv-loop13 μ-loop13 Inv-loop μ-loop
 loop9-again c =
     (c .before .before .before .before .before .loop9 .inv .0, seeking-on noId (isId (c .before .before .before .before .before .before .before .before .plan5 .given .0 .0)) _ _ _ _ (c .before .before .before .before .loop9-test .taken) (ne-eqb _ _ (c .if13 .left)) (c .before .before .before .before .before .loop9 .inv .1))
 
-sought-id : (c : tie.Left-loop9 Inv-loop2 μ-loop2 Inv-loop4 μ-loop4 Inv-loop5 μ-loop5 Inv-loop6 μ-loop6 Inv-loop3 μ-loop3 Inv-loop7 μ-loop7 Inv-loop8 μ-loop8 Inv-loop9 μ-loop9 Inv-loop10 μ-loop10 Inv-loop12 μ-loop12 Inv-loop11 μ-loop11 Inv-loop13 μ-loop13 Inv-loop μ-loop) → (let l = c .before .loop9 in let s = c .before .before .before .before .before .before .before .before .before .before .before .before .before .before .before .before .before .before .before .before .before .before .before .before .loop .s in let k = c .before .before .before .before .plan5 .given .0 .0 in
+sought-id : (c : tie.Left-loop9 Inv-loop2 μ-loop2 Inv-loop4 μ-loop4 Inv-loop5 μ-loop5 Inv-loop6 μ-loop6 Inv-loop3 μ-loop3 Inv-loop7 μ-loop7 Inv-loop8 μ-loop8 Inv-loop9 μ-loop9 Inv-loop10 μ-loop10 Inv-loop12 μ-loop12 Inv-loop11 μ-loop11 Inv-loop13 μ-loop13 Inv-loop μ-loop) →
+    (let l = c .before .loop9 in let s = c .before .before .before .before .before .before .before .before .before .before .before .before .before .before .before .before .before .before .before .before .before .before .before .before .loop .s in let k = c .before .before .before .before .plan5 .given .0 .0 in
     (l .i < c .before .before .counted2 .result → At (l .i) ≡ foundId (indexOf s) k) × (c .before .before .counted2 .result ≤ l .i → Nothing ≡ foundId (indexOf s) k))
 sought-id c =
     let l = c .before .loop9 in
@@ -713,23 +772,31 @@ loop-less-5 c =
 
 loop-again-5 : tie.Need-loop-again-5 Inv-loop2 μ-loop2 Inv-loop4 μ-loop4 Inv-loop5 μ-loop5 Inv-loop6 μ-loop6 Inv-loop3 μ-loop3 Inv-loop7 μ-loop7 Inv-loop8 μ-loop8 Inv-loop9 μ-loop9 Inv-loop10 μ-loop10 Inv-loop12 μ-loop12 Inv-loop11 μ-loop11 Inv-loop13 μ-loop13 Inv-loop μ-loop
 loop-again-5 c =
-    let m = told (c .before .before .before .before .before .before .before .before .before) (c .before .before .before .before .before .before .before .plan5 .given .1) in
+    let c₁ = c .before .before .before .before .before .before .before .before .before in
+    let c₂ = c₁ .before .before .before .before .before .before .before .before .before in
+    let c₃ = c₂ .before .before .before .before .before .before .before .before .before in
+    let m = told (c₁) (c .before .before .before .before .before .before .before .plan5 .given .1) in
     let k = c .before .before .before .before .before .before .before .plan5 .given .0 .0 in
     let d = c .before .before .before .before .before .before .before .plan5 .given .0 .1 .0 in
-    let s = withEdits (c .before .before .before .before .before .before .before .before .before .before .before .before .before .before .before .before .before .before .before .before .before .before .before .before .before .before .before .loop .s) (c .before .before .before .before .before .before .before .before .before .before .before .before .before .before .before .before .before .before .before .before .before .before .before .before .before .before .before .loop .edits) in
+    let s = withEdits (c₃ .loop .s) (c₃ .loop .edits) in
     let h = sym (sought-id (c .before .before .before) .0 (c .before .before .if14 .taken)) in
-    on-silent (c .before .before .before .before .before .before .before .before .before) (m .0) (m .1) _ (c .before .before .before .before .before .before .before .before .before .before .before .silent .ensures ∙ ap (λ (n : ℕ). withRefusal n (silentLeft (c .before .before .before .before .before .before .before .before .before .before .before .before .before .before .before .r .given .0 .0))) (sym (m .2 ∙ accepted-active s k (d .«end_time») h))) _
+    on-silent (c₁) (m .0) (m .1) _ (c₁ .before .before .silent .ensures ∙ ap (λ (n : ℕ). withRefusal n (silentLeft (c₁ .before .before .before .before .before .before .r .given .0 .0))) (sym (m .2 ∙ accepted-active s k (d .«end_time») h))) _
     (amended-active s k d h (c .edited2 .ensures))
 
 loop10-holds : tie.Need-loop10-holds Inv-loop2 μ-loop2 Inv-loop4 μ-loop4 Inv-loop5 μ-loop5 Inv-loop6 μ-loop6 Inv-loop3 μ-loop3 Inv-loop7 μ-loop7 Inv-loop8 μ-loop8 Inv-loop9 μ-loop9 Inv-loop10 μ-loop10 Inv-loop12 μ-loop12 Inv-loop11 μ-loop11 Inv-loop13 μ-loop13 Inv-loop μ-loop
 loop10-holds c =
-    (counted-few (c .before .before .before .before .before .before .before .before .before .before .before .before .before .before .before .before .before .before .before .before .before .before .before .before .before .before .before .before .loop .edits .len) (c .counted3 .ensures), seeking-edit (c .before .before .before .before .before .before .before .before .before .before .before .before .before .before .before .before .before .before .before .before .before .before .before .before .before .before .before .before .loop .edits) _ (c .counted3 .ensures))
+    let c₁ = c .before .before .before .before .before .before .before .before .before in
+    let c₂ = c₁ .before .before .before .before .before .before .before .before .before in
+    let c₃ = c₂ .before .before .before .before .before .before .before .before .before in
+    (counted-few (c₃ .before .loop .edits .len) (c .counted3 .ensures), seeking-edit (c₃ .before .loop .edits) _ (c .counted3 .ensures))
 
 loop10-again : tie.Need-loop10-again Inv-loop2 μ-loop2 Inv-loop4 μ-loop4 Inv-loop5 μ-loop5 Inv-loop6 μ-loop6 Inv-loop3 μ-loop3 Inv-loop7 μ-loop7 Inv-loop8 μ-loop8 Inv-loop9 μ-loop9 Inv-loop10 μ-loop10 Inv-loop12 μ-loop12 Inv-loop11 μ-loop11 Inv-loop13 μ-loop13 Inv-loop μ-loop
 loop10-again c =
-    (c .before .before .before .before .before .before .loop10 .inv .0, seeking-on noEdit (isEdit (c .before .before .before .before .before .before .before .before .before .before .before .before .before .before .before .plan5 .given .0 .0)) _ _ _ _ (c .before .before .before .before .before .loop10-test .taken) (ne-eqb _ _ (c .if16 .left)) (c .before .before .before .before .before .before .loop10 .inv .1))
+    let c₁ = c .before .before .before .before .before .before .before .before .before in
+    (c .before .before .before .before .before .before .loop10 .inv .0, seeking-on noEdit (isEdit (c₁ .before .before .before .before .before .before .plan5 .given .0 .0)) _ _ _ _ (c .before .before .before .before .before .loop10-test .taken) (ne-eqb _ _ (c .if16 .left)) (c .before .before .before .before .before .before .loop10 .inv .1))
 
-sought-stored : (c : tie.Left-loop10 Inv-loop2 μ-loop2 Inv-loop4 μ-loop4 Inv-loop5 μ-loop5 Inv-loop6 μ-loop6 Inv-loop3 μ-loop3 Inv-loop7 μ-loop7 Inv-loop8 μ-loop8 Inv-loop9 μ-loop9 Inv-loop10 μ-loop10 Inv-loop12 μ-loop12 Inv-loop11 μ-loop11 Inv-loop13 μ-loop13 Inv-loop μ-loop) → (let l = c .before .loop10 in let m = c .before .before .before .before .before .before .before .before .before .before .before .before .before .before .before .before .before .before .before .before .before .before .before .before .before .before .before .before .before .before .loop .edits in let k = c .before .before .before .before .before .before .before .before .before .before .plan5
+sought-stored : (c : tie.Left-loop10 Inv-loop2 μ-loop2 Inv-loop4 μ-loop4 Inv-loop5 μ-loop5 Inv-loop6 μ-loop6 Inv-loop3 μ-loop3 Inv-loop7 μ-loop7 Inv-loop8 μ-loop8 Inv-loop9 μ-loop9 Inv-loop10 μ-loop10 Inv-loop12 μ-loop12 Inv-loop11 μ-loop11 Inv-loop13 μ-loop13 Inv-loop μ-loop) →
+    (let l = c .before .loop10 in let m = c .before .before .before .before .before .before .before .before .before .before .before .before .before .before .before .before .before .before .before .before .before .before .before .before .before .before .before .before .before .before .loop .edits in let k = c .before .before .before .before .before .before .before .before .before .before .plan5
     .given .0 .0 in
     (l .j < c .before .before .counted3 .result → At (l .j) ≡ placed m k) × (c .before .before .counted3 .result ≤ l .j → Nothing ≡ placed m k))
 sought-stored c =
@@ -743,7 +810,8 @@ sought-stored c =
     (c .loop10-test .came)
 
 -- the event does not sound, and the edit is not past
-unsounding : (c : tie.Left-loop10 Inv-loop2 μ-loop2 Inv-loop4 μ-loop4 Inv-loop5 μ-loop5 Inv-loop6 μ-loop6 Inv-loop3 μ-loop3 Inv-loop7 μ-loop7 Inv-loop8 μ-loop8 Inv-loop9 μ-loop9 Inv-loop10 μ-loop10 Inv-loop12 μ-loop12 Inv-loop11 μ-loop11 Inv-loop13 μ-loop13 Inv-loop μ-loop) → foundId (indexOf (c .before .before .before .before .before .before .before .before .before .before .before .before .before .before .before .before .before .before .before .before .before .before .before .before .before .before .before .before .before .before .loop .s)) (c .before .before .before .before .before .before .before .before .before .before .plan5 .given .0 .0) ≡
+unsounding : (c : tie.Left-loop10 Inv-loop2 μ-loop2 Inv-loop4 μ-loop4 Inv-loop5 μ-loop5 Inv-loop6 μ-loop6 Inv-loop3 μ-loop3 Inv-loop7 μ-loop7 Inv-loop8 μ-loop8 Inv-loop9 μ-loop9 Inv-loop10 μ-loop10 Inv-loop12 μ-loop12 Inv-loop11 μ-loop11 Inv-loop13 μ-loop13 Inv-loop μ-loop) → foundId
+    (indexOf (c .before .before .before .before .before .before .before .before .before .before .before .before .before .before .before .before .before .before .before .before .before .before .before .before .before .before .before .before .before .before .loop .s)) (c .before .before .before .before .before .before .before .before .before .before .plan5 .given .0 .0) ≡
     Nothing
 unsounding c = sym (sought-id (c .before .before .before .before .before .before) .1 (c .before .before .before .before .before .if14 .left))
 
@@ -753,15 +821,18 @@ loop-less-6 c =
 
 loop-again-6 : tie.Need-loop-again-6 Inv-loop2 μ-loop2 Inv-loop4 μ-loop4 Inv-loop5 μ-loop5 Inv-loop6 μ-loop6 Inv-loop3 μ-loop3 Inv-loop7 μ-loop7 Inv-loop8 μ-loop8 Inv-loop9 μ-loop9 Inv-loop10 μ-loop10 Inv-loop12 μ-loop12 Inv-loop11 μ-loop11 Inv-loop13 μ-loop13 Inv-loop μ-loop
 loop-again-6 c =
-    let m = told (c .before .before .before .before .before .before .before .before .before .before .before .before .before) (c .before .before .before .before .before .before .before .before .before .before .before .plan5 .given .1) in
-    let k = c .before .before .before .before .before .before .before .before .before .before .before .plan5 .given .0 .0 in
-    let d = c .before .before .before .before .before .before .before .before .before .before .before .plan5 .given .0 .1 .0 in
-    let s = c .before .before .before .before .before .before .before .before .before .before .before .before .before .before .before .before .before .before .before .before .before .before .before .before .before .before .before .before .before .before .before .loop .s in
-    let e = c .before .before .before .before .before .before .before .before .before .before .before .before .before .before .before .before .before .before .before .before .before .before .before .before .before .before .before .before .before .before .before .loop .edits in
+    let c₁ = c .before .before .before .before .before .before .before .before .before in
+    let c₂ = c₁ .before .before .before .before .before .before .before .before .before in
+    let c₃ = c₂ .before .before .before .before .before .before .before .before .before in
+    let m = told (c₁ .before .before .before .before) (c₁ .before .before .plan5 .given .1) in
+    let k = c₁ .before .before .plan5 .given .0 .0 in
+    let d = c₁ .before .before .plan5 .given .0 .1 .0 in
+    let s = c₃ .before .before .before .before .loop .s in
+    let e = c₃ .before .before .before .before .loop .edits in
     let u = unsounding (c .before) in
     let h = not-true _ (c .before .before .before .before .if15 .taken) in
     let q = sought-stored (c .before) .0 (c .if17 .taken) in
-    on-silent (c .before .before .before .before .before .before .before .before .before .before .before .before .before) (m .0) (m .1) _ (c .before .before .before .before .before .before .before .before .before .before .before .before .before .before .before .silent .ensures ∙ ap (λ (n : ℕ). withRefusal n (silentLeft (c .before .before .before .before .before .before .before .before .before .before .before .before .before .before .before .before .before .before .before .r .given .0 .0))) (sym (m .2 ∙ accepted-at s e k d u h q))) _
+    on-silent (c₁ .before .before .before .before) (m .0) (m .1) _ (c₁ .before .before .before .before .before .before .silent .ensures ∙ ap (λ (n : ℕ). withRefusal n (silentLeft (c₂ .before .r .given .0 .0))) (sym (m .2 ∙ accepted-at s e k d u h q))) _
     (stored-at s e k d u h q)
 
 loop-less-7 : tie.Need-loop-less-7 Inv-loop2 μ-loop2 Inv-loop4 μ-loop4 Inv-loop5 μ-loop5 Inv-loop6 μ-loop6 Inv-loop3 μ-loop3 Inv-loop7 μ-loop7 Inv-loop8 μ-loop8 Inv-loop9 μ-loop9 Inv-loop10 μ-loop10 Inv-loop12 μ-loop12 Inv-loop11 μ-loop11 Inv-loop13 μ-loop13 Inv-loop μ-loop
@@ -770,15 +841,18 @@ loop-less-7 c =
 
 loop-again-7 : tie.Need-loop-again-7 Inv-loop2 μ-loop2 Inv-loop4 μ-loop4 Inv-loop5 μ-loop5 Inv-loop6 μ-loop6 Inv-loop3 μ-loop3 Inv-loop7 μ-loop7 Inv-loop8 μ-loop8 Inv-loop9 μ-loop9 Inv-loop10 μ-loop10 Inv-loop12 μ-loop12 Inv-loop11 μ-loop11 Inv-loop13 μ-loop13 Inv-loop μ-loop
 loop-again-7 c =
-    let m = told (c .before .before .before .before .before .before .before .before .before .before .before .before .before .before) (c .before .before .before .before .before .before .before .before .before .before .before .before .plan5 .given .1) in
-    let k = c .before .before .before .before .before .before .before .before .before .before .before .before .plan5 .given .0 .0 in
-    let d = c .before .before .before .before .before .before .before .before .before .before .before .before .plan5 .given .0 .1 .0 in
-    let s = c .before .before .before .before .before .before .before .before .before .before .before .before .before .before .before .before .before .before .before .before .before .before .before .before .before .before .before .before .before .before .before .before .loop .s in
-    let e = c .before .before .before .before .before .before .before .before .before .before .before .before .before .before .before .before .before .before .before .before .before .before .before .before .before .before .before .before .before .before .before .before .loop .edits in
+    let c₁ = c .before .before .before .before .before .before .before .before .before in
+    let c₂ = c₁ .before .before .before .before .before .before .before .before .before in
+    let c₃ = c₂ .before .before .before .before .before .before .before .before .before in
+    let m = told (c₁ .before .before .before .before .before) (c₁ .before .before .before .plan5 .given .1) in
+    let k = c₁ .before .before .before .plan5 .given .0 .0 in
+    let d = c₁ .before .before .before .plan5 .given .0 .1 .0 in
+    let s = c₃ .before .before .before .before .before .loop .s in
+    let e = c₃ .before .before .before .before .before .loop .edits in
     let u = unsounding (c .before .before) in
     let h = not-true _ (c .before .before .before .before .before .if15 .taken) in
     let q = sought-stored (c .before .before) .1 (c .before .if17 .left) in
-    on-silent (c .before .before .before .before .before .before .before .before .before .before .before .before .before .before) (m .0) (m .1) _ (c .before .before .before .before .before .before .before .before .before .before .before .before .before .before .before .before .silent .ensures ∙ ap (λ (n : ℕ). withRefusal n (silentLeft (c .before .before .before .before .before .before .before .before .before .before .before .before .before .before .before .before .before .before .before .before .r .given .0 .0))) (sym (m .2 ∙ accepted-last s e k d u h q (c .if18 .taken)))) _
+    on-silent (c₁ .before .before .before .before .before) (m .0) (m .1) _ (c₁ .before .before .before .before .before .before .before .silent .ensures ∙ ap (λ (n : ℕ). withRefusal n (silentLeft (c₂ .before .before .r .given .0 .0))) (sym (m .2 ∙ accepted-last s e k d u h q (c .if18 .taken)))) _
     (stored-last s e k d u h q (c .if18 .taken))
 
 loop-less-8 : tie.Need-loop-less-8 Inv-loop2 μ-loop2 Inv-loop4 μ-loop4 Inv-loop5 μ-loop5 Inv-loop6 μ-loop6 Inv-loop3 μ-loop3 Inv-loop7 μ-loop7 Inv-loop8 μ-loop8 Inv-loop9 μ-loop9 Inv-loop10 μ-loop10 Inv-loop12 μ-loop12 Inv-loop11 μ-loop11 Inv-loop13 μ-loop13 Inv-loop μ-loop
@@ -787,15 +861,18 @@ loop-less-8 c =
 
 loop-again-8 : tie.Need-loop-again-8 Inv-loop2 μ-loop2 Inv-loop4 μ-loop4 Inv-loop5 μ-loop5 Inv-loop6 μ-loop6 Inv-loop3 μ-loop3 Inv-loop7 μ-loop7 Inv-loop8 μ-loop8 Inv-loop9 μ-loop9 Inv-loop10 μ-loop10 Inv-loop12 μ-loop12 Inv-loop11 μ-loop11 Inv-loop13 μ-loop13 Inv-loop μ-loop
 loop-again-8 c =
-    let m = told (c .before .before .before .before .before .before .before .before .before .before .before .before .before .before) (c .before .before .before .before .before .before .before .before .before .before .before .before .plan5 .given .1) in
-    let k = c .before .before .before .before .before .before .before .before .before .before .before .before .plan5 .given .0 .0 in
-    let d = c .before .before .before .before .before .before .before .before .before .before .before .before .plan5 .given .0 .1 .0 in
-    let s = c .before .before .before .before .before .before .before .before .before .before .before .before .before .before .before .before .before .before .before .before .before .before .before .before .before .before .before .before .before .before .before .before .loop .s in
-    let e = c .before .before .before .before .before .before .before .before .before .before .before .before .before .before .before .before .before .before .before .before .before .before .before .before .before .before .before .before .before .before .before .before .loop .edits in
+    let c₁ = c .before .before .before .before .before .before .before .before .before in
+    let c₂ = c₁ .before .before .before .before .before .before .before .before .before in
+    let c₃ = c₂ .before .before .before .before .before .before .before .before .before in
+    let m = told (c₁ .before .before .before .before .before) (c₁ .before .before .before .plan5 .given .1) in
+    let k = c₁ .before .before .before .plan5 .given .0 .0 in
+    let d = c₁ .before .before .before .plan5 .given .0 .1 .0 in
+    let s = c₃ .before .before .before .before .before .loop .s in
+    let e = c₃ .before .before .before .before .before .loop .edits in
     let u = unsounding (c .before .before) in
     let h = not-true _ (c .before .before .before .before .before .if15 .taken) in
     let q = sought-stored (c .before .before) .1 (c .before .if17 .left) in
-    on-silent (c .before .before .before .before .before .before .before .before .before .before .before .before .before .before) (m .0) (m .1) _ (ap (withRefusal 9) (c .before .before .before .before .before .before .before .before .before .before .before .before .before .before .before .before .silent .ensures) ∙ ap (λ (n : ℕ). withRefusal n (silentLeft (c .before .before .before .before .before .before .before .before .before .before .before .before .before .before .before .before .before .before .before .before .r .given .0 .0))) (sym (m .2 ∙ refused-nowhere s e k d u h q (c .if18 .left)))) _
+    on-silent (c₁ .before .before .before .before .before) (m .0) (m .1) _ (ap (withRefusal 9) (c₁ .before .before .before .before .before .before .before .silent .ensures) ∙ ap (λ (n : ℕ). withRefusal n (silentLeft (c₂ .before .before .r .given .0 .0))) (sym (m .2 ∙ refused-nowhere s e k d u h q (c .if18 .left)))) _
     (stored-nowhere s e k d u h q (c .if18 .left))
 
 loop-less-9 : tie.Need-loop-less-9 Inv-loop2 μ-loop2 Inv-loop4 μ-loop4 Inv-loop5 μ-loop5 Inv-loop6 μ-loop6 Inv-loop3 μ-loop3 Inv-loop7 μ-loop7 Inv-loop8 μ-loop8 Inv-loop9 μ-loop9 Inv-loop10 μ-loop10 Inv-loop12 μ-loop12 Inv-loop11 μ-loop11 Inv-loop13 μ-loop13 Inv-loop μ-loop
@@ -804,13 +881,16 @@ loop-less-9 c =
 
 loop-again-9 : tie.Need-loop-again-9 Inv-loop2 μ-loop2 Inv-loop4 μ-loop4 Inv-loop5 μ-loop5 Inv-loop6 μ-loop6 Inv-loop3 μ-loop3 Inv-loop7 μ-loop7 Inv-loop8 μ-loop8 Inv-loop9 μ-loop9 Inv-loop10 μ-loop10 Inv-loop12 μ-loop12 Inv-loop11 μ-loop11 Inv-loop13 μ-loop13 Inv-loop μ-loop
 loop-again-9 c =
-    let m = told (c .before .before .before .before .before .before .before .before .before) (c .before .before .before .before .before .before .before .plan5 .given .1) in
+    let c₁ = c .before .before .before .before .before .before .before .before .before in
+    let c₂ = c₁ .before .before .before .before .before .before .before .before .before in
+    let c₃ = c₂ .before .before .before .before .before .before .before .before .before in
+    let m = told (c₁) (c .before .before .before .before .before .before .before .plan5 .given .1) in
     let k = c .before .before .before .before .before .before .before .plan5 .given .0 .0 in
     let d = c .before .before .before .before .before .before .before .plan5 .given .0 .1 .0 in
-    let s = withEdits (c .before .before .before .before .before .before .before .before .before .before .before .before .before .before .before .before .before .before .before .before .before .before .before .before .before .before .before .loop .s) (c .before .before .before .before .before .before .before .before .before .before .before .before .before .before .before .before .before .before .before .before .before .before .before .before .before .before .before .loop .edits) in
+    let s = withEdits (c₃ .loop .s) (c₃ .loop .edits) in
     let u = sym (sought-id (c .before .before .before) .1 (c .before .before .if14 .left)) in
     let h = not-false _ (c .if15 .left) in
-    on-silent (c .before .before .before .before .before .before .before .before .before) (m .0) (m .1) _ (c .before .before .before .before .before .before .before .before .before .before .before .silent .ensures ∙ ap (λ (n : ℕ). withRefusal n (silentLeft (c .before .before .before .before .before .before .before .before .before .before .before .before .before .before .before .r .given .0 .0))) (sym (m .2 ∙ accepted-past s k (d .«end_time») u h))) _
+    on-silent (c₁) (m .0) (m .1) _ (c₁ .before .before .silent .ensures ∙ ap (λ (n : ℕ). withRefusal n (silentLeft (c₁ .before .before .before .before .before .before .r .given .0 .0))) (sym (m .2 ∙ accepted-past s k (d .«end_time») u h))) _
     (amended-past s k d u h)
 
 loop-less-10 : tie.Need-loop-less-10 Inv-loop2 μ-loop2 Inv-loop4 μ-loop4 Inv-loop5 μ-loop5 Inv-loop6 μ-loop6 Inv-loop3 μ-loop3 Inv-loop7 μ-loop7 Inv-loop8 μ-loop8 Inv-loop9 μ-loop9 Inv-loop10 μ-loop10 Inv-loop12 μ-loop12 Inv-loop11 μ-loop11 Inv-loop13 μ-loop13 Inv-loop μ-loop
@@ -819,8 +899,10 @@ loop-less-10 c = less (c .before .before .before .before)
 loop-again-10 : tie.Need-loop-again-10 Inv-loop2 μ-loop2 Inv-loop4 μ-loop4 Inv-loop5 μ-loop5 Inv-loop6 μ-loop6 Inv-loop3 μ-loop3 Inv-loop7 μ-loop7 Inv-loop8 μ-loop8 Inv-loop9 μ-loop9 Inv-loop10 μ-loop10 Inv-loop12 μ-loop12 Inv-loop11 μ-loop11 Inv-loop13 μ-loop13 Inv-loop μ-loop
 unfolding ofBits
 loop-again-10 c =
+    let c₁ = c .before .before .before .before .before .before .before .before .before in
+    let c₂ = c₁ .before .before .before .before .before .before .before .before .before in
     let m = told (c .before .before .before .before) (c .before .before .enum-told2 .given .1) in
-    on-silent (c .before .before .before .before) (m .0) (m .1) _ (c .before .before .before .before .before .before .silent .ensures) _ (cleared (withEdits (c .before .before .before .before .before .before .before .before .before .before .before .before .before .before .before .before .before .before .before .before .before .before .loop .s) (c .before .before .before .before .before .before .before .before .before .before .before .before .before .before .before .before .before .before .before .before .before .before .loop .edits)) (c .before .gone-all .ensures) (c .lowest .ensures) (m .2))
+    on-silent (c .before .before .before .before) (m .0) (m .1) _ (c .before .before .before .before .before .before .silent .ensures) _ (cleared (withEdits (c₂ .before .before .before .before .loop .s) (c₂ .before .before .before .before .loop .edits)) (c .before .gone-all .ensures) (c .lowest .ensures) (m .2))
 
 -- ---- everything waits again
 
@@ -846,11 +928,14 @@ loop12-again c = (c .before .before .before .before .loop12 .inv .0, rising-in-o
 
 loop11-again : tie.Need-loop11-again Inv-loop2 μ-loop2 Inv-loop4 μ-loop4 Inv-loop5 μ-loop5 Inv-loop6 μ-loop6 Inv-loop3 μ-loop3 Inv-loop7 μ-loop7 Inv-loop8 μ-loop8 Inv-loop9 μ-loop9 Inv-loop10 μ-loop10 Inv-loop12 μ-loop12 Inv-loop11 μ-loop11 Inv-loop13 μ-loop13 Inv-loop μ-loop
 loop11-again c =
+    let c₁ = c .before .before .before .before .before .before .before .before .before in
+    let c₂ = c₁ .before .before .before .before .before .before .before .before .before in
+    let c₃ = c₂ .before .before .before .before .before .before .before .before .before in
     let l = c .before .before .before .before .before .before .loop11 in
     let w = c .before .loop12 .inv in
-    let y : Sequencer → Sequencer = λ x. withEdits x (c .before .before .before .before .before .before .before .before .before .before .before .before .before .before .before .before .before .before .before .before .before .before .before .before .before .before .before .before .before .before .loop .edits) in
+    let y : Sequencer → Sequencer = λ x. withEdits x (c₃ .before .before .before .loop .edits) in
     let g = ⊎-elim (λ x. risen-in-root (w .0) (x .left) (w .1)) (λ x. risen-in-stop (w .0) (sym (x .2 .ensures) ∙ not-true _ (x .3 .taken)) (w .1)) (c .loop12-test .came) in
-    (l .inv .0, l .inv .1, readying-on _ _ _ _ _ _ _ (held-event (c .before .before .before)) (ap y g ∙ pushed-beside (l .s) (c .before .before .before .before .before .before .before .before .before .before .before .before .before .before .before .before .before .before .before .before .before .before .before .before .before .before .before .before .before .before .loop .edits) (c .before .before .before .if19 .event)) (c .before .before .before .before .before .loop11-test .taken) (l .inv .2))
+    (l .inv .0, l .inv .1, readying-on _ _ _ _ _ _ _ (held-event (c .before .before .before)) (ap y g ∙ pushed-beside (l .s) (c₃ .before .before .before .loop .edits) (c .before .before .before .if19 .event)) (c .before .before .before .before .before .loop11-test .taken) (l .inv .2))
 
 loop11-again-2 : tie.Need-loop11-again-2 Inv-loop2 μ-loop2 Inv-loop4 μ-loop4 Inv-loop5 μ-loop5 Inv-loop6 μ-loop6 Inv-loop3 μ-loop3 Inv-loop7 μ-loop7 Inv-loop8 μ-loop8 Inv-loop9 μ-loop9 Inv-loop10 μ-loop10 Inv-loop12 μ-loop12 Inv-loop11 μ-loop11 Inv-loop13 μ-loop13 Inv-loop μ-loop
 loop11-again-2 c =
@@ -869,9 +954,13 @@ loop-less-11 c =
 
 loop-again-11 : tie.Need-loop-again-11 Inv-loop2 μ-loop2 Inv-loop4 μ-loop4 Inv-loop5 μ-loop5 Inv-loop6 μ-loop6 Inv-loop3 μ-loop3 Inv-loop7 μ-loop7 Inv-loop8 μ-loop8 Inv-loop9 μ-loop9 Inv-loop10 μ-loop10 Inv-loop12 μ-loop12 Inv-loop11 μ-loop11 Inv-loop13 μ-loop13 Inv-loop μ-loop
 loop-again-11 c =
-    let m = told (c .before .before .before .before .before .before .before .before .before .before .before) (c .before .before .before .before .before .before .before .before .before .plan6 .given .1) in
-    on-silent (c .before .before .before .before .before .before .before .before .before .before .before) (m .0) (m .1) _ (c .before .before .before .before .before .before .before .before .before .before .before .before .before .silent .ensures) _
-    (requeued (c .before .before .before .before .before .before .before .before .before .plan6 .given .0 .0) (withEdits (c .before .before .before .before .before .before .before .before .before .before .before .before .before .before .before .before .before .before .before .before .before .before .before .before .before .before .before .before .before .loop .s) (c .before .before .before .before .before .before .before .before .before .before .before .before .before .before .before .before .before .before .before .before .before .before .before .before .before .before .before .before .before .loop .edits)) (readied-all (withEdits (c .before .before .before .before .before .before .before .before .before .before .before .before .before .before .before .before .before .before .before .before .before .before .before .before .before .before .before .before .before .loop .s) (c .before .before .before .before .before .before .before .before .before .before .before .before .before .before .before .before .before .before .before .before .before .before .before .before .before .before .before .before .before .loop .edits)) (c .before .before .before .before .before .before .before .least2 .ensures) (c .before .before .before .before .before .before .least3 .ensures) refl (c .before .before .before .before .loop11-test .left) (c .before .before .before .before .before .loop11
+    let c₁ = c .before .before .before .before .before .before .before .before .before in
+    let c₂ = c₁ .before .before .before .before .before .before .before .before .before in
+    let c₃ = c₂ .before .before .before .before .before .before .before .before .before in
+    let m = told (c₁ .before .before) (c₁ .plan6 .given .1) in
+    on-silent (c₁ .before .before) (m .0) (m .1) _ (c₁ .before .before .before .before .silent .ensures) _
+    (requeued (c₁ .plan6 .given .0 .0) (withEdits (c₃ .before .before .loop .s) (c₃ .before .before .loop .edits))
+        (readied-all (withEdits (c₃ .before .before .loop .s) (c₃ .before .before .loop .edits)) (c .before .before .before .before .before .before .before .least2 .ensures) (c .before .before .before .before .before .before .least3 .ensures) refl (c .before .before .before .before .loop11-test .left) (c .before .before .before .before .before .loop11
     .inv .2)) (c .before .before .before .rewound .ensures) (rewound-all (c .before .loop13-test .left) (c .before .before .loop13 .inv .1)) (c .lowest2 .ensures))
 
 slice-aggregate-apply : tie.Need-slice-aggregate-apply Inv-loop2 μ-loop2 Inv-loop4 μ-loop4 Inv-loop5 μ-loop5 Inv-loop6 μ-loop6 Inv-loop3 μ-loop3 Inv-loop7 μ-loop7 Inv-loop8 μ-loop8 Inv-loop9 μ-loop9 Inv-loop10 μ-loop10 Inv-loop12 μ-loop12 Inv-loop11 μ-loop11 Inv-loop13 μ-loop13 Inv-loop μ-loop
@@ -883,15 +972,18 @@ loop-less-12 c =
 
 loop-again-12 : tie.Need-loop-again-12 Inv-loop2 μ-loop2 Inv-loop4 μ-loop4 Inv-loop5 μ-loop5 Inv-loop6 μ-loop6 Inv-loop3 μ-loop3 Inv-loop7 μ-loop7 Inv-loop8 μ-loop8 Inv-loop9 μ-loop9 Inv-loop10 μ-loop10 Inv-loop12 μ-loop12 Inv-loop11 μ-loop11 Inv-loop13 μ-loop13 Inv-loop μ-loop
 loop-again-12 c =
-    let v = c .before .before .before .before .before .before .before .before .before .before .before .before .before .r .given .0 in
-    let l = c .before .before .before .before .before .before .before .before .before .before .before .before .before .before .before .before .before .before .before .before .before .before .before .before .before .loop in
-    let a = c .before .before .before .before .before .before .before .before .before .before .before .before .before .before .before .before .before .before .before .before .before .before .before .before .before .before .before .before .before .before .before .args in
+    let c₁ = c .before .before .before .before .before .before .before .before .before in
+    let c₂ = c₁ .before .before .before .before .before .before .before .before .before in
+    let c₃ = c₂ .before .before .before .before .before .before .before .before .before in
+    let v = c₁ .before .before .before .before .r .given .0 in
+    let l = c₂ .before .before .before .before .before .before .before .loop in
+    let a = c₃ .before .before .before .before .args in
     let y = c .before .before .before .apply in
     let m = told (c .before .before .before .before .before .before .before) (c .before .before .before .before .before .enum-told3 .given .1) in
     let d = created (c .before .before .before .before .before .before .before) (c .before .before .before .before .before .enum-told3 .given .1) (l .mix) (l .inv .samples) in
-    let h = withRefusal (y .result .refusal) (c .before .before .before .before .before .before .before .before .before .silent .result) in
-    subst (λ (o : List Float). Rolling (a .form) (a .pool .now) (a .tape .now) (a .whole) (a .sequencer) (a .cursor) (a .out .now) (c .before .before .before .before .before .before .before .before .before .before .before .before .before .before .before .before .before .before .before .before .before .before .leave .last .1 .1 .1 .1 .0) (y .result .sequencer) (v .1 .1 .0) o h (c .before .before .before .before .before .before .before .before .before .before .before .before .before .before .before .before .before .before .before .before .before .before .leave .result)) (sym (y .ensures .1 ∙ d .1))
-    (on-silent (c .before .before .before .before .before .before .before) (m .0) (m .1) h (ap (withRefusal (y .result .refusal)) (c .before .before .before .before .before .before .before .before .before .silent .ensures) ∙ ap (λ (x : Applied). withRefusal (x .refusal) (silentLeft (v .0))) (y .ensures .0 ∙ d .0)) (y .result .sequencer) (ap (λ (x : Applied). x .sequencer) (y .ensures .0 ∙ d .0)))
+    let h = withRefusal (y .result .refusal) (c₁ .silent .result) in
+    subst (λ (o : List Float). Rolling (a .form) (a .pool .now) (a .tape .now) (a .whole) (a .sequencer) (a .cursor) (a .out .now) (c₂ .before .before .before .before .leave .last .1 .1 .1 .1 .0) (y .result .sequencer) (v .1 .1 .0) o h (c₂ .before .before .before .before .leave .result)) (sym (y .ensures .1 ∙ d .1))
+    (on-silent (c .before .before .before .before .before .before .before) (m .0) (m .1) h (ap (withRefusal (y .result .refusal)) (c₁ .silent .ensures) ∙ ap (λ (x : Applied). withRefusal (x .refusal) (silentLeft (v .0))) (y .ensures .0 ∙ d .0)) (y .result .sequencer) (ap (λ (x : Applied). x .sequencer) (y .ensures .0 ∙ d .0)))
 
 -- ---- needs that are found, each by itself: together they are too many for one search
 
@@ -1145,3 +1237,4 @@ run-spec =
     loop11-again-2 (λ c κs. search needs) loop13-holds mul-event-11 element-copy-out-event-7 (λ c κs. search needs) mul-event-12
     element-set-from-event-6 add-k-3 loop13-less loop13-again (λ c. search needs) loop-less-11 loop-again-11 (λ c. search needs)
     slice-aggregate-apply (λ c κs. search needs) loop-less-12 loop-again-12)
+
