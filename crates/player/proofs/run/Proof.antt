@@ -222,8 +222,8 @@ created c e =
     let call = c .before .before .before .before .before .before .r .given .0 .1 .0 in
     let s = withEdits (l .s) (l .edits) in
     subst (Creates (c .before .before .before .before .before .before .before .before .before .before .before .before .before .before .before .before .before .before .before .before .before .before .before .before .args .pool .now) s call) (sym (planned c) ∙ e)
-        (creates (c .before .before .before .before .before .before .before .before .before .before .before .before .before .before .before .before .before .before .before .before .before .before .before .before .args .pool .now) s
-        (length (c .before .before .before .before .before .before .before .before .before .before .before .before .before .before .before .before .before .before .before .before .before .before .before .before .args .out .now) - c .before .before .before .before .before .before .before .before .before .before .before .before .before .before .before .leave .result) call)
+    (creates (c .before .before .before .before .before .before .before .before .before .before .before .before .before .before .before .before .before .before .before .before .before .before .before .before .args .pool .now) s
+    (length (c .before .before .before .before .before .before .before .before .before .before .before .before .before .before .before .before .before .before .before .before .before .before .before .before .args .out .now) - c .before .before .before .before .before .before .before .before .before .before .before .before .before .before .before .leave .result) call)
 
 -- the next record is nearer to the tape's end
 less : (c : tie.After-plan-of Inv-loop2 μ-loop2 Inv-loop4 μ-loop4 Inv-loop5 μ-loop5 Inv-loop6 μ-loop6 Inv-loop3 μ-loop3 Inv-loop7 μ-loop7 Inv-loop8 μ-loop8 Inv-loop9 μ-loop9 Inv-loop10 μ-loop10 Inv-loop12 μ-loop12 Inv-loop11 μ-loop11 Inv-loop13 μ-loop13 Inv-loop μ-loop) →
@@ -246,12 +246,12 @@ on-silent : (c : tie.After-plan-of Inv-loop2 μ-loop2 Inv-loop4 μ-loop4 Inv-loo
     appliedTo (a .pool .now) y (v .1 .0) (l .inv .samples) ≡ silent s n → appliedOut (a .pool .now) y (v .1 .0) (l .inv .samples) ≡ l .inv .samples
     → (left : Left) → left ≡ withRefusal n (silentLeft (v .0)) → (x : Sequencer) → x ≡ s
     → Rolling (a .form) (a .pool .now) (a .tape .now) (a .whole) (a .sequencer) (a .cursor) (a .out .now) (c .before .before .before .before .before .before .before .before .before .before .before .before .before .before .before .leave .last .1 .1 .1 .1 .0) x (v .1 .1 .0) (l .mix) left
-        (c .before .before .before .before .before .before .before .before .before .before .before .before .before .before .before .leave .result))
+    (c .before .before .before .before .before .before .before .before .before .before .before .before .before .before .before .leave .result))
 on-silent c p q =
     let v = c .before .before .before .before .before .before .r .given .0 in
     goes-on-silent _ _ _ _ _ _ _ (rested (c .before .before .before .before .before .before .before .before .before .before .before .before .before .before .before)) (c .before .before .before .before .before .before .before .before .before .before .before .if1 .left)
-        (sym (c .before .before .before .before .before .before .before .before .before .before .is-short .ensures) ∙ c .before .before .before .before .before .before .before .before .before .if2 .left) (v .0) (v .1 .0) (v .1 .1 .0) (reads c) p q
-        (c .before .before .before .before .before .before .before .before .before .before .before .before .before .before .before .before .before .before .loop .mix) (c .before .before .before .before .before .before .before .before .before .before .before .before .before .before .before .before .before .before .loop .inv .wide) (roomy-in c)
+    (sym (c .before .before .before .before .before .before .before .before .before .before .is-short .ensures) ∙ c .before .before .before .before .before .before .before .before .before .if2 .left) (v .0) (v .1 .0) (v .1 .1 .0) (reads c) p q
+    (c .before .before .before .before .before .before .before .before .before .before .before .before .before .before .before .before .before .before .loop .mix) (c .before .before .before .before .before .before .before .before .before .before .before .before .before .before .before .before .before .before .loop .inv .wide) (roomy-in c)
 
 -- ---- a tick or block
 
@@ -337,8 +337,8 @@ renders-in c = told (c .before .before) (c .plan4 .given .1)
 -- every event has been added
 summed : (c : tie.After-loop8 Inv-loop2 μ-loop2 Inv-loop4 μ-loop4 Inv-loop5 μ-loop5 Inv-loop6 μ-loop6 Inv-loop3 μ-loop3 Inv-loop7 μ-loop7 Inv-loop8 μ-loop8 Inv-loop9 μ-loop9 Inv-loop10 μ-loop10 Inv-loop12 μ-loop12 Inv-loop11 μ-loop11 Inv-loop13 μ-loop13 Inv-loop μ-loop)
     → (let b = c .before .before .before .before .before .before .before .before .before .before .before .before .before .before .before .before .before .plan4 .given .0 .0 in let s = withEdits
-        (c .before .before .before .before .before .before .before .before .before .before .before .before .before .before .before .before .before .before .before .before .before .before .before .before .before .before .before .before .before .before .before .before .before .before .before .before .before .loop .s)
-        (c .before .before .before .before .before .before .before .before .before .before .before .before .before .before .before .before .before .before .before .before .before .before .before .before .before .before .before .before .before .before .before .before .before .before .before .before .before .loop .edits) in
+    (c .before .before .before .before .before .before .before .before .before .before .before .before .before .before .before .before .before .before .before .before .before .before .before .before .before .before .before .before .before .before .before .before .before .before .before .before .before .loop .s)
+    (c .before .before .before .before .before .before .before .before .before .before .before .before .before .before .before .before .before .before .before .before .before .before .before .before .before .before .before .before .before .before .before .before .before .before .before .before .before .loop .edits) in
     let pool = c .before .before .before .before .before .before .before .before .before .before .before .before .before .before .before .before .before .before .before .before .before .before .before .before .before .before .before .before .before .before .before .before .before .before .before .before .before .before .before .before .before .before .before .args .pool .now in
     (withEdits (c .before .loop8 .s) (c .before .before .before .before .before .before .before .before .before .before .before .before .before .loop3 .edits) ≡ renderedIn pool b s) × (take (c .before .before .before .before .before .cleared-places .result) (c .before .loop8 .mix) ≡ rowIn pool b s))
 summed c =
@@ -374,7 +374,7 @@ returns-3 : tie.Need-returns-3 Inv-loop2 μ-loop2 Inv-loop4 μ-loop4 Inv-loop5 �
 returns-3 c =
     let c₁ = c .before .before .before .before .before .before .before .before .before in
     ends-unread _ _ _ _ _ _ _ (rested (c₁ .before .before .before)) (c .before .before .before .before .before .before .before .before .if1 .left) (sym (c .before .before .before .before .before .before .before .is-short .ensures) ∙ c .before .before .before .before .before .before .if2 .left) (c .before .before .before .before .before .read .result)
-        (c .before .before .before .before .before .read .ensures) (not-record (c .before .before .before .before .before .read .result) (c .before .before .before .before .match .keys2)) (c .before .before .unread .ensures .1 .1 (rested-within (c₁ .before .before .before)))
+    (c .before .before .before .before .before .read .ensures) (not-record (c .before .before .before .before .before .read .result) (c .before .before .before .before .match .keys2)) (c .before .before .unread .ensures .1 .1 (rested-within (c₁ .before .before .before)))
 
 sub-is-full : tie.Need-sub-is-full Inv-loop2 μ-loop2 Inv-loop4 μ-loop4 Inv-loop5 μ-loop5 Inv-loop6 μ-loop6 Inv-loop3 μ-loop3 Inv-loop7 μ-loop7 Inv-loop8 μ-loop8 Inv-loop9 μ-loop9 Inv-loop10 μ-loop10 Inv-loop12 μ-loop12 Inv-loop11 μ-loop11 Inv-loop13 μ-loop13 Inv-loop μ-loop
 sub-is-full c =
@@ -389,7 +389,7 @@ returns-4 c =
     let c₁ = c .before .before .before .before .before .before .before .before .before in
     let v = c .before .before .before .r .given .0 in
     ends-full-lines _ _ _ _ _ _ _ (rested (c₁ .before .before .before)) (c .before .before .before .before .before .before .before .before .if1 .left) (sym (c .before .before .before .before .before .before .before .is-short .ensures) ∙ c .before .before .before .before .before .before .if2 .left) (v .0) (v .1 .0) (v .1 .1 .0)
-        (sym (c .before .before .before .before .before .read .ensures) ∙ c .before .before .before .r .given .1) _ _ refl refl
+    (sym (c .before .before .before .before .before .read .ensures) ∙ c .before .before .before .r .given .1) _ _ refl refl
     (roomy _ _ _ _ _ _ _ (rested (c₁ .before .before .before)) (sym (c .before .is-full .ensures) ∙ c .if3 .taken))
 
 sub-plan-of : tie.Need-sub-plan-of Inv-loop2 μ-loop2 Inv-loop4 μ-loop4 Inv-loop5 μ-loop5 Inv-loop6 μ-loop6 Inv-loop3 μ-loop3 Inv-loop7 μ-loop7 Inv-loop8 μ-loop8 Inv-loop9 μ-loop9 Inv-loop10 μ-loop10 Inv-loop12 μ-loop12 Inv-loop11 μ-loop11 Inv-loop13 μ-loop13 Inv-loop μ-loop
@@ -468,8 +468,8 @@ loop-again-3 c =
     let g = ⊎-elim (λ w. risen-in-root (i .0) (w .left) (i .1)) (λ w. risen-in-stop (i .0) (sym (w .2 .ensures) ∙ not-true _ (w .3 .taken)) (i .1)) (c .before .loop2-test .came) in
     let y : Sequencer → Sequencer = λ x. withEdits x (c₂ .before .before .before .before .before .before .loop .edits) in
     on-silent (c .before .before .before .before .before .before) (m .0) (m .1) _ (c .before .before .before .before .before .before .before .before .silent .ensures) _
-        (entered-ready (y (c₂ .before .before .before .before .before .before .loop .s)) (y (c .before .before .loop2 .s)) _ (c .before .before .before .before .plan3 .given .0 .0) (ap y (i .1 .same))
-        (ap y g ∙ pushed-beside (c₂ .before .before .before .before .before .before .loop .s) (c₂ .before .before .before .before .before .before .loop .edits) (c .before .before .before .before .plan3 .given .0
+    (entered-ready (y (c₂ .before .before .before .before .before .before .loop .s)) (y (c .before .before .loop2 .s)) _ (c .before .before .before .before .plan3 .given .0 .0) (ap y (i .1 .same))
+    (ap y g ∙ pushed-beside (c₂ .before .before .before .before .before .before .loop .s) (c₂ .before .before .before .before .before .before .loop .edits) (c .before .before .before .before .plan3 .given .0
     .0)) (c .wrapping-add-u642 .ensures))
 
 loop3-holds : tie.Need-loop3-holds Inv-loop2 μ-loop2 Inv-loop4 μ-loop4 Inv-loop5 μ-loop5 Inv-loop6 μ-loop6 Inv-loop3 μ-loop3 Inv-loop7 μ-loop7 Inv-loop8 μ-loop8 Inv-loop9 μ-loop9 Inv-loop10 μ-loop10 Inv-loop12 μ-loop12 Inv-loop11 μ-loop11 Inv-loop13 μ-loop13 Inv-loop μ-loop
@@ -601,7 +601,7 @@ loop7-again-3 c =
     let c₁ = c .before .before .before .before .before .before .before .before .before in
     let h = inside (c .before .before .before .before .before) in
     not-ended (c₁ .before .before .before .before .before .before .plan4 .given .0 .0 .limit) (withEdits (c .before .before .before .before .before .before .before .loop7 .s) (c₁ .before .before .loop3 .edits)) (c .before .before .before .before .before .before .before .loop7 .i) _ (c .after2 .ensures) (h .0) (h .1) (c .before .if11 .left)
-        (c .before .before .before .before .before .before .before .loop7 .inv)
+    (c .before .before .before .before .before .before .before .loop7 .inv)
 
 loop8-holds : tie.Need-loop8-holds Inv-loop2 μ-loop2 Inv-loop4 μ-loop4 Inv-loop5 μ-loop5 Inv-loop6 μ-loop6 Inv-loop3 μ-loop3 Inv-loop7 μ-loop7 Inv-loop8 μ-loop8 Inv-loop9 μ-loop9 Inv-loop10 μ-loop10 Inv-loop12 μ-loop12 Inv-loop11 μ-loop11 Inv-loop13 μ-loop13 Inv-loop μ-loop
 unfolding ofBits
@@ -708,9 +708,11 @@ loop4-holds : tie.Need-loop4-holds Inv-loop2 μ-loop2 Inv-loop4 μ-loop4 Inv-loo
 loop4-holds c = (counted-few (c .before .before .before .before .before .loop3 .edits .len) (c .counted .ensures), seeking-edit (c .before .before .before .before .before .loop3 .edits) _ (c .counted .ensures))
 
 loop4-again : tie.Need-loop4-again Inv-loop2 μ-loop2 Inv-loop4 μ-loop4 Inv-loop5 μ-loop5 Inv-loop6 μ-loop6 Inv-loop3 μ-loop3 Inv-loop7 μ-loop7 Inv-loop8 μ-loop8 Inv-loop9 μ-loop9 Inv-loop10 μ-loop10 Inv-loop12 μ-loop12 Inv-loop11 μ-loop11 Inv-loop13 μ-loop13 Inv-loop μ-loop
-loop4-again c =
-    (c .before .before .before .before .before .before .loop4 .inv .0, seeking-on noEdit (isEdit (getD (c .before .before .before .before .before .before .before .before .before .before .before .before .loop3 .s .ready) 0 blank .id)) _ _ _ _ (c .before .before .before .before .before .loop4-test .taken) (ne-eqb _ _ (c .if6 .left))
-        (c .before .before .before .before .before .before .loop4 .inv .1))
+loop4-again c = (
+  c .before .before .before .before .before .before .loop4 .inv .0,
+  seeking-on noEdit (isEdit (getD (c .before .before .before .before .before .before .before .before .before .before .before .before .loop3 .s .ready) 0 blank .id)) _ _ _ _ (c .before .before .before .before .before .loop4-test .taken) (ne-eqb _ _ (c .if6 .left))
+      (c .before .before .before .before .before .before .loop4 .inv .1),
+)
 
 sub-m : tie.Need-sub-m Inv-loop2 μ-loop2 Inv-loop4 μ-loop4 Inv-loop5 μ-loop5 Inv-loop6 μ-loop6 Inv-loop3 μ-loop3 Inv-loop7 μ-loop7 Inv-loop8 μ-loop8 Inv-loop9 μ-loop9 Inv-loop10 μ-loop10 Inv-loop12 μ-loop12 Inv-loop11 μ-loop11 Inv-loop13 μ-loop13 Inv-loop μ-loop
 sub-m c = omega (arith, c .before .before .before .if7 .taken)
@@ -960,7 +962,7 @@ loop-again-11 c =
     let m = told (c₁ .before .before) (c₁ .plan6 .given .1) in
     on-silent (c₁ .before .before) (m .0) (m .1) _ (c₁ .before .before .before .before .silent .ensures) _
     (requeued (c₁ .plan6 .given .0 .0) (withEdits (c₃ .before .before .loop .s) (c₃ .before .before .loop .edits))
-        (readied-all (withEdits (c₃ .before .before .loop .s) (c₃ .before .before .loop .edits)) (c .before .before .before .before .before .before .before .least2 .ensures) (c .before .before .before .before .before .before .least3 .ensures) refl (c .before .before .before .before .loop11-test .left) (c .before .before .before .before .before .loop11
+    (readied-all (withEdits (c₃ .before .before .loop .s) (c₃ .before .before .loop .edits)) (c .before .before .before .before .before .before .before .least2 .ensures) (c .before .before .before .before .before .before .least3 .ensures) refl (c .before .before .before .before .loop11-test .left) (c .before .before .before .before .before .loop11
     .inv .2)) (c .before .before .before .rewound .ensures) (rewound-all (c .before .loop13-test .left) (c .before .before .loop13 .inv .1)) (c .lowest2 .ensures))
 
 slice-aggregate-apply : tie.Need-slice-aggregate-apply Inv-loop2 μ-loop2 Inv-loop4 μ-loop4 Inv-loop5 μ-loop5 Inv-loop6 μ-loop6 Inv-loop3 μ-loop3 Inv-loop7 μ-loop7 Inv-loop8 μ-loop8 Inv-loop9 μ-loop9 Inv-loop10 μ-loop10 Inv-loop12 μ-loop12 Inv-loop11 μ-loop11 Inv-loop13 μ-loop13 Inv-loop μ-loop
@@ -1237,4 +1239,3 @@ run-spec =
     loop11-again-2 (λ c κs. search needs) loop13-holds mul-event-11 element-copy-out-event-7 (λ c κs. search needs) mul-event-12
     element-set-from-event-6 add-k-3 loop13-less loop13-again (λ c. search needs) loop-less-11 loop-again-11 (λ c. search needs)
     slice-aggregate-apply (λ c κs. search needs) loop-less-12 loop-again-12)
-

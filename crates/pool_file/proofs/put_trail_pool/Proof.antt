@@ -25,7 +25,11 @@ returns c = (omega arith, (sym (rw (lt-ltb _ _ (c .if1 .taken)) refl), sym (rw (
 
 returns-2 : tie.Need-returns-2
 unfolding trailLoaded
-returns-2 c = (c .before .before .before .before .before .before .if1 .left, (sym (rw (le-ltb _ _ (c .before .before .before .before .before .before .if1 .left)) refl), put (now (c .before .before .before .before .before .before .before .before .args .pool)) (c .before .before .before .before .before .trail-pool .ensures) (c .before .before .put-front .ensures) (c .before .before .before .before .before .before .if1 .left)))
+returns-2 c =
+    let c₁ = c .before .before .before .before .before .before .before .before in (
+      c .before .before .before .before .before .before .if1 .left,
+      (sym (rw (le-ltb _ _ (c .before .before .before .before .before .before .if1 .left)) refl), put (now (c₁ .args .pool)) (c .before .before .before .before .before .trail-pool .ensures) (c .before .before .put-front .ensures) (c .before .before .before .before .before .before .if1 .left)),
+    )
 
 pub put-trail-pool-spec : {M : Type 1} → statement M
 put-trail-pool-spec =

@@ -9,10 +9,14 @@ returns : tie.Need-returns
 returns c = none-added (recordLine (c .before .before .args .kind) (c .before .before .args .refusal) (c .before .before .args .counts)) (c .before .before .args .out .now) (c .before .before .args .at) (c .if1 .taken)
 
 add-result : tie.Need-add-result
-add-result c = let h = line-within (c .before .before .before .before .before .before .args .out .now) (c .before .before .before .before .before .before .args .at) (recordLine (c .before .before .before .before .before .before .args .kind) (c .before .before .before .before .before .before .args .refusal) (c .before .before .before .before .before .before .args .counts)) (c .before .before .before .before .if1 .left) (c .before .before .counts-line .ensures .1) in search needs
+add-result c = let h = line-within (c .before .before .before .before .before .before .args .out .now) (c .before .before .before .before .before .before .args .at)
+    (recordLine (c .before .before .before .before .before .before .args .kind) (c .before .before .before .before .before .before .args .refusal) (c .before .before .before .before .before .before .args .counts)) (c .before .before .before .before .if1 .left)
+    (c .before .before .counts-line .ensures .1) in search needs
 
 returns-2 : tie.Need-returns-2
-returns-2 c = line-added (c .before .before .before .before .before .before .args .out .now) (c .before .before .before .before .before .before .args .at) (recordLine (c .before .before .before .before .before .before .args .kind) (c .before .before .before .before .before .before .args .refusal) (c .before .before .before .before .before .before .args .counts)) (c .before .before .before .before .if1 .left) (c .before .before .counts-line .ensures .0) (c .before .before .counts-line .ensures .1)
+returns-2 c = line-added (c .before .before .before .before .before .before .args .out .now) (c .before .before .before .before .before .before .args .at)
+    (recordLine (c .before .before .before .before .before .before .args .kind) (c .before .before .before .before .before .before .args .refusal) (c .before .before .before .before .before .before .args .counts)) (c .before .before .before .before .if1 .left)
+    (c .before .before .counts-line .ensures .0) (c .before .before .counts-line .ensures .1)
 
 pub put-counts-spec : {M : Type 1} → statement M
 put-counts-spec =

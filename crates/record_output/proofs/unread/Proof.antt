@@ -18,12 +18,15 @@ returns c =
 returns-2 : tie.Need-returns-2
 returns-2 c =
     let a = c .before .before .before .before .before .before .before .before .before .args in
-    unread-bytes (a .form) (a .counts) (a .out .now) (a .at) (c .before .before .before .before .before .before .r .given .1) (c .enum-told .given .1) (ap (λ (k : ℕ). ltb k (roomFor (a .form) [])) (sym (c .before .before .before .before .room-at .ensures)) ∙ sym (c .before .before .before .is-full .ensures) ∙ c .before .before .if1 .left)
+    unread-bytes (a .form) (a .counts) (a .out .now) (a .at) (c .before .before .before .before .before .before .r .given .1) (c .enum-told .given .1)
+    (ap (λ (k : ℕ). ltb k (roomFor (a .form) [])) (sym (c .before .before .before .before .room-at .ensures)) ∙ sym (c .before .before .before .is-full .ensures) ∙ c .before .before .if1 .left)
 
 returns-3 : tie.Need-returns-3
 returns-3 c =
-    let a = c .before .before .before .before .before .before .before .before .before .before .before .before .before .args in
-    unread-lines (a .form) (a .counts) (a .out .now) (a .at) (c .before .before .before .before .before .before .before .before .before .before .r .given .1) (c .before .before .before .before .enum-told2 .given .1) (ap (λ (k : ℕ). ltb k (roomFor (a .form) [])) (sym (c .before .before .before .before .before .before .before .before .room-at .ensures)) ∙ sym (c .before .before .before .before .before .before .before .is-full .ensures) ∙ c .before .before .before .before .before .before .if1 .left)
+    let c₁ = c .before .before .before .before .before .before .before .before in
+    let a = c₁ .before .before .before .before .before .args in
+    unread-lines (a .form) (a .counts) (a .out .now) (a .at) (c₁ .before .before .r .given .1) (c .before .before .before .before .enum-told2 .given .1)
+    (ap (λ (k : ℕ). ltb k (roomFor (a .form) [])) (sym (c₁ .room-at .ensures)) ∙ sym (c .before .before .before .before .before .before .before .is-full .ensures) ∙ c .before .before .before .before .before .before .if1 .left)
     (record-line-most _ _ (a .counts .waiting) (a .counts .sounding) (a .counts .finished) (a .counts .«let_go») (search needs) (search needs) (search needs) (search needs) (search needs)) (c .before .before .put-counts .ensures)
 
 returns-4 : tie.Need-returns-4
