@@ -17,10 +17,11 @@ classText place = byPlace place (ascii "w") (ascii "s") (ascii "f") (ascii "g")
 unfoldable pub nameText : (place : ℕ) → List ℕ
 nameText place = byPlace place (ascii "waiting") (ascii "sounding") (ascii "finished") (ascii "let go")
 
--- how far below the lane's top a standing is drawn, and how high: each has a height of its own, so that it is told in grey too
+-- how far below the lane's top a standing is drawn
 unfoldable pub insetOf : (place : ℕ) → ℕ
 insetOf place = byPlace place 8 5 7 9
 
+-- how high it is drawn: each standing has a height of its own, so that it is told in grey too
 unfoldable pub thicknessOf : (place : ℕ) → ℕ
 thicknessOf place = byPlace place 4 10 6 2
 
@@ -33,19 +34,20 @@ unfoldable pub openText : (class : List ℕ) → (x y : ℕ) → List (List ℕ)
 unfolding attribute
 openText class x y = ascii "<text class=\"" ∷ class ∷ ascii "\"" ∷ (attribute (ascii "x") x ++ (attribute (ascii "y") y ++ (ascii ">" ∷ [])))
 
+-- where a box stands
+unfoldable pub bounds : (x y width height : ℕ) → List (List ℕ)
+unfolding attribute
+bounds x y width height = attribute (ascii "x") x ++ (attribute (ascii "y") y ++ (attribute (ascii "width") width ++ attribute (ascii "height") height))
+
 -- a box of a class, opened
 unfoldable pub openBox : (class : List ℕ) → (x y width height : ℕ) → List (List ℕ)
-unfolding attribute
-openBox class x y width height =
-    ascii "<rect class=\"" ∷ class ∷ ascii "\"" ∷ (attribute (ascii "x") x ++ (attribute (ascii "y") y ++ (attribute (ascii "width") width
-    ++ (attribute (ascii "height") height ++ (ascii ">" ∷ [])))))
+unfolding bounds
+openBox class x y width height = ascii "<rect class=\"" ∷ class ∷ ascii "\"" ∷ (bounds x y width height ++ (ascii ">" ∷ []))
 
 -- a standing's box in a lane that begins at top, up to its last attribute
 unfoldable pub standing : (place x top width : ℕ) → List (List ℕ)
-unfolding classText attribute insetOf thicknessOf
-standing place x top width =
-    ascii "<rect class=\"" ∷ classText place ∷ ascii "\"" ∷ (attribute (ascii "x") x ++ (attribute (ascii "y") (top + insetOf place) ++ (attribute (ascii "width") width
-    ++ attribute (ascii "height") (thicknessOf place))))
+unfolding classText bounds insetOf thicknessOf
+standing place x top width = ascii "<rect class=\"" ∷ classText place ∷ ascii "\"" ∷ bounds x (top + insetOf place) width (thicknessOf place)
 
 -- seconds as hours, minutes and seconds
 unfoldable pub clockText : (s : ℕ) → List (List ℕ)

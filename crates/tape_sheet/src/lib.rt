@@ -3,7 +3,7 @@ ghost use mathlib.Core.Path.{_≡_};
 ghost use Prim.Native.Nat.{_-_, _≤_};
 ghost use Rattle.listing.specs.Pieces.{text, add, addAll};
 ghost use Rattle.tape_words.specs.Words.{byPlace};
-ghost use Rattle.tape_sheet.specs.Elements.{nameText, attribute, openText, openBox, standing, clockText, axisTime, axisMark, segment, lane, openMark, refused, editTitle, edited, editedLane, called, bar, wave, swatch, page, measures, foot, stopText};
+ghost use Rattle.tape_sheet.specs.Elements.{nameText, attribute, openText, bounds, openBox, standing, clockText, axisTime, axisMark, segment, lane, openMark, refused, editTitle, edited, editedLane, called, bar, wave, swatch, page, measures, foot, stopText};
 use listing::pieces::put_bytes;
 use listing::pieces::put_decimal;
 use sequencer::Answer;
@@ -74,6 +74,16 @@ fn put_open_text(class: &[u8], x: u64, y: u64, out: &mut [u8], at: usize) -> usi
     put_bytes(b">", out, to)
 }
 
+// Where a box stands.
+fn put_bounds(x: u64, y: u64, width: u64, height: u64, out: &mut [u8], at: usize) -> usize
+    ensures { λ r. ⌜ text (now (out .exit)) r ≡ addAll (bounds x y width height) (text (now (out .entry)) at) ⌝ }
+{
+    let to = put_attribute(b"x", x, out, at);
+    let to = put_attribute(b"y", y, out, to);
+    let to = put_attribute(b"width", width, out, to);
+    put_attribute(b"height", height, out, to)
+}
+
 // A box of a class, opened.
 fn put_open_box(
     class: &[u8],
@@ -89,10 +99,7 @@ fn put_open_box(
     let to = put_bytes(b"<rect class=\"", out, at);
     let to = put_bytes(class, out, to);
     let to = put_bytes(b"\"", out, to);
-    let to = put_attribute(b"x", x, out, to);
-    let to = put_attribute(b"y", y, out, to);
-    let to = put_attribute(b"width", width, out, to);
-    let to = put_attribute(b"height", height, out, to);
+    let to = put_bounds(x, y, width, height, out, to);
     put_bytes(b">", out, to)
 }
 
@@ -106,10 +113,7 @@ fn put_standing(place: u64, x: u64, top: u64, width: u64, out: &mut [u8], at: us
     let to = put_bytes(b"<rect class=\"", out, at);
     let to = put_by_place(place, b"w", b"s", b"f", b"g", out, to);
     let to = put_bytes(b"\"", out, to);
-    let to = put_attribute(b"x", x, out, to);
-    let to = put_attribute(b"y", top + inset, out, to);
-    let to = put_attribute(b"width", width, out, to);
-    put_attribute(b"height", height, out, to)
+    put_bounds(x, top + inset, width, height, out, to)
 }
 
 // Seconds as hours, minutes and seconds.

@@ -27,6 +27,7 @@ moveText clip was place = cond (eqb place was) [] (ascii "; clip " ∷ decimal c
 unfoldable pub laidText : (clip place : ℕ) → List (List ℕ)
 laidText clip place = ascii ": clip " ∷ decimal clip ∷ cond (eqb place 1) (ascii " goes straight to sounding") (ascii " waits") ∷ []
 
+-- the replay mode
 unfoldable pub modeText : ReplayMode → List ℕ
 modeText All = ascii ", mode All"
 modeText None = ascii ", mode None"

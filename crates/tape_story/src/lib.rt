@@ -52,6 +52,7 @@ fn put_laid(clip: u64, place: u64, out: &mut [u8], at: usize) -> usize
     )
 }
 
+// The replay mode.
 fn put_mode(mode: ReplayMode, out: &mut [u8], at: usize) -> usize
     ensures { λ r. ⌜ text (now (out .exit)) r ≡ add (modeText mode) (text (now (out .entry)) at) ⌝ }
 {

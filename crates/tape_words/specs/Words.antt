@@ -44,7 +44,7 @@ sumText p w s f g =
 
 -- ---- calls, by their record's kind
 
--- pushes, with and without a gain; a rate is all that is left
+-- a push, without a gain (1, 2, 3) and with one (10, 11, 12); any other kind is a rate
 unfoldable pub pushText : (kind : ℕ) → List ℕ
 pushText k =
     cond (eqb k 1) (ascii "push")

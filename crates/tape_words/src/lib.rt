@@ -127,7 +127,7 @@ pub fn put_sum(
     put_bytes(b" let go", out, to)
 }
 
-// The name of a push, by its record's kind.
+// The name of a push, by its record's kind; any other kind is a rate.
 fn put_push(kind: u8, out: &mut [u8], at: usize) -> usize
     ensures { λ r. ⌜ text (now (out .exit)) r ≡ add (pushText kind) (text (now (out .entry)) at) ⌝ }
 {
