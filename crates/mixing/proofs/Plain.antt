@@ -1,15 +1,14 @@
--- Where no fade acts a run is the source's samples at the event's gain, and no fade's place is counted. Assumes nothing.
+-- Where no fade acts a run is the source's samples at the event's gain. Assumes nothing.
 use Prim.Native.Nat.{ℕ, _-_}
 use mathlib.Core.Path.{_≡_, refl, sym}
 use mathlib.Core.Bool.{Bool, true, false, not, _&&_, _||_, cond, true≢false}
-use mathlib.Core.List.{List, [], _++_}
+use mathlib.Core.List.{List}
 use lib.Dec.{ltb}
 use lib.Ieee.{Float}
 use Rattle.event.specs.declared.Event.{Event}
 use Rattle.event.specs.Sources.{nextSamples, advancedBy}
 use Rattle.ledger.specs.BlockSamples.{Span, firstPlace, endPlace, gained, runFadedIn, runFadedOut, fadedRun, addAt, channelAfter, afterBlock}
 use Rattle.floats.specs.Arithmetic.{_≤ᶠ_}
-use Rattle.ledger.specs.Places.{fadeInPlacings, fadeOutPlacings}
 use Rattle.mixing.specs.Placed.{fadesIn, fadesOut, goesThrough}
 
 neither : (p q : Bool) → (p || q) ≡ false → (p ≡ false) × (q ≡ false)
@@ -21,10 +20,6 @@ module _ (b : Span) (e : Event) (h : (fadesIn b e || fadesOut b e) ≡ false) wh
   pub plain-run : (pool : List Float) (s z : ℕ) → fadedRun pool b s z e ≡ gained (e .gain) (nextSamples pool (e .unit) (z - s))
   unfolding runFadedIn runFadedOut
   plain-run pool s z = let n = neither (fadesIn b e) (fadesOut b e) h in rw (n .0, n .1)
-
-  pub plain-placings : (s : ℕ) → fadeInPlacings b e ++ fadeOutPlacings b s e ≡ []
-  unfolding fadeInPlacings fadeOutPlacings
-  plain-placings s = let n = neither (fadesIn b e) (fadesOut b e) h in rw (n .0, n .1)
 
 pub is-plain : (p : Bool) (q : Bool) → (p && not q) ≡ true → (p ≡ true) × (q ≡ false)
 is-plain true true h = absurd (true≢false (sym h))

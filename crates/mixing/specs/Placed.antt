@@ -1,8 +1,7 @@
--- What the code gives for a place: its number and how it came, both the ledger's; and an event's source after a block with its places counted. Assumes nothing.
+-- What the code gives for a place: its number and how it came, both the ledger's; and what a block changes of an event. Assumes nothing.
 use Prim.Native.Nat.{ℕ, _-_, min, max}
 use mathlib.Core.Bool.{Bool, true, false, _&&_, cond}
-use mathlib.Core.Path.{_≡_, refl}
-use mathlib.Core.List.{_++_}
+use mathlib.Core.Path.{_≡_, refl, sym, ap}
 use lib.Dec.{ltb, leb}
 use lib.Ieee.{Float}
 use Rattle.floats.specs.Arithmetic.{_+ᵈ_, _-ᵈ_, _<ᶠ_, _≤ᶠ_, zeroᶠ}
@@ -12,15 +11,12 @@ use Rattle.floats.specs.IndexStep.{isFree}
 use Rattle.event.specs.declared.Event.{Event}
 use Rattle.event.specs.declared.Placing.{Placing}
 use Rattle.event.specs.declared.Placing.the-variants.{Kept, Forced}
-use Rattle.event.specs.declared.Placings.{Placings}
-use Rattle.event.specs.declared.Unit.{Unit}
+use Rattle.event.specs.declared.Source.{Source}
 use Rattle.event.specs.Events.{withUnit}
-use Rattle.event.specs.Placings.{addAll}
-use Rattle.event.specs.Sources.{advancedBy}
+use Rattle.event.specs.Sources.{advancedBy, source-stays}
 use Rattle.ledger.specs.BlockSamples.{Span, firstPlace, endPlace, fadeInPlace, fadeOutPlace, afterBlock}
-use Rattle.ledger.specs.Places.{rounded, firstPlacing, endPlacing, fadeInPlacing, fadeOutPlacing, fadeInPlacings, fadeOutPlacings, eventPlacings}
+use Rattle.ledger.specs.Places.{rounded, firstPlacing, endPlacing, fadeInPlacing, fadeOutPlacing}
 use Rattle.mixing.specs.declared.Place.{Place}
-use Rattle.mixing.specs.declared.Processed.{Processed}
 
 abbrev pub placingOf : (most : ℕ) → SampleIndex → Placing
 placingOf most i = cond (isFree (i .how) && leb (i .index) most) Kept Forced
@@ -54,18 +50,14 @@ fadesOut b e = zeroᶠ <ᶠ e .«fade_out» && (e .«end_time» -ᵈ e .«fade_o
 abbrev pub goesThrough : Span → Event → Bool
 goesThrough b e = ltb 0 (b .size) && (e .«start_time» ≤ᶠ b .clock && b .upto ≤ᶠ e .«end_time»)
 
--- where z > s: the source has moved on by z - s, and the fades' places are counted
-abbrev pub runProcessed : Span → (s z : ℕ) → Event → Placings → Processed
-runProcessed b s z e c = record { unit = advancedBy (e .unit) (z - s); places = addAll c (fadeInPlacings b e ++ fadeOutPlacings b s e) }
-
-abbrev pub processed : Span → Event → Placings → Processed
-processed b e c = record { unit = afterBlock b e .unit; places = addAll c (eventPlacings b e) }
-
--- an event after a block is the event with another source
-changed : (t : Bool) (u : Unit) (e : Event) → withUnit (cond t (withUnit u e) e .unit) e ≡ cond t (withUnit u e) e
-changed true u e = refl
-changed false u e = refl
-
-pub unit-changes : (b : Span) (e : Event) → withUnit (afterBlock b e .unit) e ≡ afterBlock b e
+-- a block changes of an event no more than the value and the place of its source
+pub source-moves : (b : Span) (e : Event) → withUnit (record { source = e .unit .source; value = afterBlock b e .unit .value; place = afterBlock b e .unit .place }) e ≡ afterBlock b e
 unfolding afterBlock
-unit-changes b e = changed (ltb (firstPlace b e) (endPlace b e)) (advancedBy (e .unit) (endPlace b e - firstPlace b e)) e
+source-moves b e = go (ltb (firstPlace b e) (endPlace b e)) (endPlace b e - firstPlace b e)
+  where
+    to : Bool → ℕ → Event
+    to t n = cond t (withUnit (advancedBy (e .unit) n) e) e
+
+    go : (t : Bool) (n : ℕ) → withUnit (record { source = e .unit .source; value = to t n .unit .value; place = to t n .unit .place }) e ≡ to t n
+    go true n = ap (λ (s : Source). withUnit (record { source = s; value = advancedBy (e .unit) n .value; place = advancedBy (e .unit) n .place }) e) (sym (source-stays (e .unit) n))
+    go false n = refl

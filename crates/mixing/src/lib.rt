@@ -9,10 +9,10 @@ ghost use Rattle.event.specs.Placings.{addAll};
 ghost use Rattle.ledger.specs.TickSamples.{fadedIn, fadedOut, tickSample, afterTick};
 ghost use Rattle.event.specs.Sources.{nextSamples, advancedBy};
 ghost use Rattle.ledger.specs.BlockSamples.{phaseAt, phaseStep, runFadedIn, runFadedOut, gained, fadedRun, addAt, channelAfter, afterBlock};
-ghost use Rattle.ledger.specs.Places.{fadeInPlacings, fadeOutPlacings};
+ghost use Rattle.ledger.specs.Places.{fadeInPlacings, fadeOutPlacings, eventPlacings};
 ghost use Rattle.mixing.specs.Blocks.{asSpan, clearedPlaces};
 ghost use Rattle.mixing.specs.LeftOut.{tickFaded};
-ghost use Rattle.mixing.specs.Placed.{placingOf, roundedPlace, raisedPlace, firstOf, endOf, fadeInOf, fadeOutOf, fadesIn, fadesOut, goesThrough, runProcessed, processed};
+ghost use Rattle.mixing.specs.Placed.{placingOf, roundedPlace, raisedPlace, firstOf, endOf, fadeInOf, fadeOutOf, fadesIn, fadesOut, goesThrough};
 use event::Event;
 use event::Fade;
 use event::Placing;
@@ -255,52 +255,32 @@ fn phase_step(span: Span, fade: f64) -> f32
 
 // The Rust's `fade_in`: `span` has its sample_duration, time and end_time, and `event` its ease, fade_duration and
 // fade_start_time. `output` is the event's run, which starts at block place `start_index`. A fade belongs to the clip
-// (document 02, Paper 3): it covers the run's places below its end place minus `start_index`. Where the place is computed
-// it is one more of `places`.
-pub fn fade_in(
-    span: Span,
-    start_index: usize,
-    end_index: usize,
-    event: Event,
-    output: &mut [f32],
-    places: Placings,
-) -> Placings
-    ensures { λ r. ⌜ (r ≡ addAll places (fadeInPlacings (asSpan span) event)) × (now (output .exit) ≡ runFadedIn (asSpan span) «start_index» «end_index» event (now (output .entry))) ⌝ }
+// (document 02, Paper 3): it covers the run's places below its end place minus `start_index`.
+pub fn fade_in(span: Span, start_index: usize, end_index: usize, event: Event, output: &mut [f32])
+    ensures { λ _. ⌜ now (output .exit) ≡ runFadedIn (asSpan span) «start_index» «end_index» event (now (output .entry)) ⌝ }
 {
     let top = event.start_time + event.fade_in;
     if event.fade_in > 0.0 {
         if top > span.clock {
             let place = fade_in_place(event, span, end_index);
-            let how = place.how;
             let to = minus(place.at, start_index);
             let phase = phase_at(span, start_index, event.start_time, top);
             let step = phase_step(span, event.fade_in);
             let ease = event.fade_ease;
             runs::fade(output, 0, to, ease, true, phase, step);
-            return places.add(how);
         }
-        return places;
     }
-    places
 }
 
 // The Rust's `fade_out`, with the same arguments; `event` has its fade_end_time. It begins at its place in the block, or
 // where the run does if that is later, with the phase of that place.
-pub fn fade_out(
-    span: Span,
-    start_index: usize,
-    end_index: usize,
-    event: Event,
-    output: &mut [f32],
-    places: Placings,
-) -> Placings
-    ensures { λ r. ⌜ (r ≡ addAll places (fadeOutPlacings (asSpan span) «start_index» event)) × (now (output .exit) ≡ runFadedOut (asSpan span) «start_index» «end_index» event (now (output .entry))) ⌝ }
+pub fn fade_out(span: Span, start_index: usize, end_index: usize, event: Event, output: &mut [f32])
+    ensures { λ _. ⌜ now (output .exit) ≡ runFadedOut (asSpan span) «start_index» «end_index» event (now (output .entry)) ⌝ }
 {
     let bottom = event.end_time - event.fade_out;
     if event.fade_out > 0.0 {
         if bottom < span.upto {
             let place = fade_out_place(event, span, start_index);
-            let how = place.how;
             let i = place.at;
             let phase = phase_at(span, i, bottom, event.end_time);
             let step = phase_step(span, event.fade_out);
@@ -308,20 +288,11 @@ pub fn fade_out(
             let to = minus(end_index, start_index);
             let ease = event.fade_ease;
             runs::fade(output, from, to, ease, false, phase, step);
-            return places.add(how);
         }
-        return places;
     }
-    places
 }
 
-// What a block leaves of an event: its source after its samples, and the places counted so far.
-pub struct Processed {
-    pub unit: Unit,
-    pub places: Placings,
-}
-
-// The event's z - s samples, as many as the row has, at its gain and with both fades, are added to a channel from place s on.
+// The event's z - s samples, as many as the row has, at its gain and with both fades, are added to a channel from place s on; the source after them.
 fn add_run(
     event: Event,
     span: Span,
@@ -330,19 +301,18 @@ fn add_run(
     pool: &[f32],
     row: &mut [f32],
     channel: &mut [f32],
-    places: Placings,
-) -> Processed
+) -> Unit
     requires { ⌜ length (now row) ≡ z - s ⌝ }
-    ensures { λ r. ⌜ (r ≡ runProcessed (asSpan span) s z event places) × (now (channel .exit) ≡ addAt s (fadedRun (now (pool .entry)) (asSpan span) s z event) (now (channel .entry))) ⌝ }
+    ensures { λ r. ⌜ (r ≡ advancedBy (event .unit) (z - s)) × (now (channel .exit) ≡ addAt s (fadedRun (now (pool .entry)) (asSpan span) s z event) (now (channel .entry))) ⌝ }
 {
     let unit = event.unit;
     let unit = runs::fill_run(row, unit, pool);
     let gain = event.gain;
     runs::apply_gain(row, gain);
-    let places = fade_in(span, s, z, event, row, places);
-    let places = fade_out(span, s, z, event, row, places);
+    fade_in(span, s, z, event, row);
+    fade_out(span, s, z, event, row);
     runs::add_at(channel, row, s);
-    Processed { unit, places }
+    unit
 }
 
 // Whether the fade-in acts in the block.
@@ -386,36 +356,31 @@ fn add_plain(unit: Unit, gain: f32, s: usize, z: usize, pool: &[f32], channel: &
     runs::add_source(&mut channel[s..z], unit, pool, gain)
 }
 
-// One event of a block: its run is added to a channel, its source moves on, and its places are counted.
-pub fn process_event(
-    event: Event,
-    span: Span,
-    pool: &[f32],
-    channel: &mut [f32],
-    places: Placings,
-) -> Processed
-    ensures { λ r. ⌜ (r ≡ processed (asSpan span) event places) × (now (channel .exit) ≡ channelAfter (now (pool .entry)) (asSpan span) event (now (channel .entry))) ⌝ }
+// One event of a block: its run is added to a channel; the source after the block.
+pub fn process_event(event: Event, span: Span, pool: &[f32], channel: &mut [f32]) -> Unit
+    ensures { λ r. ⌜ (r ≡ afterBlock (asSpan span) event .unit) × (now (channel .exit) ≡ channelAfter (now (pool .entry)) (asSpan span) event (now (channel .entry))) ⌝ }
 {
     let first = first_place(event, span);
     let end = end_place(event, span);
     let s = first.at;
     let z = end.at;
-    let how = first.how;
-    let places = places.add(how);
-    let how = end.how;
-    let places = places.add(how);
+    let unit = event.unit;
     if s < z {
         if is_plain(event, span, z, channel.len()) {
-            let unit = event.unit;
-            let unit = add_plain(unit, event.gain, s, z, pool, channel);
-            return Processed { unit, places };
+            // By its fields: read whole right after they were written, it would have to wait for them.
+            let after = add_plain(unit, event.gain, s, z, pool, channel);
+            let source = unit.source;
+            return Unit {
+                source,
+                value: after.value,
+                place: after.place,
+            };
         }
         let m = z - s;
         let mut row = [0.0f32; 64];
-        return add_run(event, span, s, z, pool, &mut row[0..m], channel, places);
+        return add_run(event, span, s, z, pool, &mut row[0..m], channel);
     }
-    let unit = event.unit;
-    Processed { unit, places }
+    unit
 }
 
 // Whether the event sounds in all places of the block, which has some.
@@ -455,7 +420,7 @@ fn copied(event: Event) -> Event
     }
 }
 
-// The same, and nobody asks for the places: the source after the block. An event that goes through the block without a fade, as most do, is added at once.
+// The same. An event that goes through the block without a fade, as most do, is added at once.
 pub fn add_event(event: Event, span: Span, pool: &[f32], channel: &mut [f32]) -> Unit
     ensures { λ r. ⌜ (r ≡ afterBlock (asSpan span) event .unit) × (now (channel .exit) ≡ channelAfter (now (pool .entry)) (asSpan span) event (now (channel .entry))) ⌝ }
 {
@@ -467,6 +432,50 @@ pub fn add_event(event: Event, span: Span, pool: &[f32], channel: &mut [f32]) ->
         }
     }
     let event = copied(event);
-    let done = process_event(event, span, pool, channel, Placings::new());
-    done.unit
+    process_event(event, span, pool, channel)
+}
+
+// ---- how a block's places came (document 02, Paper 12)
+
+// The place of the fade-in is one more of `places` where the fade acts.
+fn count_fade_in(event: Event, span: Span, z: usize, places: Placings) -> Placings
+    ensures { λ r. ⌜ r ≡ addAll places (fadeInPlacings (asSpan span) event) ⌝ }
+{
+    if fades_in(event, span) {
+        let place = fade_in_place(event, span, z);
+        let how = place.how;
+        return places.add(how);
+    }
+    places
+}
+
+// The same of the fade-out.
+fn count_fade_out(event: Event, span: Span, s: usize, places: Placings) -> Placings
+    ensures { λ r. ⌜ r ≡ addAll places (fadeOutPlacings (asSpan span) s event) ⌝ }
+{
+    if fades_out(event, span) {
+        let place = fade_out_place(event, span, s);
+        let how = place.how;
+        return places.add(how);
+    }
+    places
+}
+
+// The event's places, each one more of `places`: where it begins and ends, and, where it sounds, those of its fades.
+pub fn count_places(event: Event, span: Span, places: Placings) -> Placings
+    ensures { λ r. ⌜ r ≡ addAll places (eventPlacings (asSpan span) event) ⌝ }
+{
+    let first = first_place(event, span);
+    let end = end_place(event, span);
+    let s = first.at;
+    let z = end.at;
+    let how = first.how;
+    let places = places.add(how);
+    let how = end.how;
+    let places = places.add(how);
+    if s < z {
+        let places = count_fade_in(event, span, z, places);
+        return count_fade_out(event, span, s, places);
+    }
+    places
 }

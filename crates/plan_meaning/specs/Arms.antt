@@ -1,6 +1,6 @@
 -- The arms of the record loop: what each leaves in the engine's fields is what its plan means. Assumes nothing.
 use mathlib.Core.Bool.{Bool, true, false, _&&_, cond, true≢false, false≢true}
-use mathlib.Core.List.{List, [], _∷_}
+use mathlib.Core.List.{List}
 use mathlib.Core.Path.{_≡_, refl, sym, ap, _∙_, subst}
 use Prim.Native.Nat.{ℕ, zero, suc, _+_, _-_, _*_, _%_, _^_, _≤_, _<_, min}
 use native.Mathlib.Omega.{arith}
@@ -18,10 +18,10 @@ use Rattle.event.specs.declared.ReplayMode.the-variants.{None}
 use Rattle.event.specs.declared.Unit.{Unit as SourceUnit}
 use Rattle.event.specs.Events.{blank, earlier, editedBy, withUnit}
 use Rattle.event.specs.Runs.{steps}
-use Rattle.event.specs.Sources.{advanced, advancedBy, source-stays}
+use Rattle.event.specs.Sources.{advanced, source-stays}
 use Rattle.floats.specs.Arithmetic.{_<ᶠ_, zeroᶠ, -∞}
 use Rattle.ledger.specs.TickSamples.{afterTick}
-use Rattle.ledger.specs.BlockSamples.{firstPlace, endPlace, afterBlock}
+use Rattle.ledger.specs.BlockSamples.{afterBlock}
 use Rattle.lists.specs.declared.EditMap.{EditMap}
 use Rattle.lists.specs.declared.Found.{Found}
 use Rattle.lists.specs.declared.Found.the-variants.{At, Nothing}
@@ -37,7 +37,8 @@ use Rattle.sequencer.specs.Moves.{pushedReady, poppedReady, pushedActive, ready
 use Rattle.sequencer.specs.Edits.{indexOf, changedBy, changed}
 use Rattle.sequencer.specs.Resets.{rewinds, emptiedLists, resetBy, resets}
 use Rattle.sequencer.specs.Turns.{Activating, activated-none, activated-beyond, activated-late, Taking, taking-missing, taking-stored, Finishing, finishing-on, finishing-room, finishing-full, filledByLast, finished-end, finished-beyond}
-use Rattle.sequencer.specs.Steady.{Passing, passing-on}
+use Rattle.mixing.specs.Placed.{source-moves}
+use Rattle.sequencer.specs.Steady.{withValue, withPlace, sourceStoredAt, Passing, passing-stored}
 use Rattle.plans.specs.declared.Step.{Step}
 use Rattle.plans.specs.declared.Requeue.{Requeue}
 use Rattle.plans.specs.Plans.{startsBefore, countedPlaces, lesserChild, isWithin, rewoundPlaces, allGone, afterPlace}
@@ -268,48 +269,23 @@ requeued q s {a} {t} p k g h =
 
 -- ---- a tick or block
 
--- a source moves on: its value and its place are stored, one after the other
-abbrev pub withValue : (v : Float) → Event → Event
-withValue v e = withUnit (record { source = e .unit .source; value = v; place = e .unit .place }) e
-
-abbrev pub withPlace : (n : ℕ) → Event → Event
-withPlace n e = withUnit (record { source = e .unit .source; value = e .unit .value; place = n }) e
-
-twice : {A : Type 0} (f g : A → A) (d : A) (xs : List A) (i : ℕ) → set (set xs i (f (getD xs i d))) i (g (getD (set xs i (f (getD xs i d))) i d)) ≡ set xs i (g (f (getD xs i d)))
-twice f g d [] i = refl
-twice f g d (x ∷ xs) zero = refl
-twice f g d (x ∷ xs) (suc i) = ap (λ (r : List _). x ∷ r) (twice f g d xs i)
-
-moved-unit : (e : Event) (u : SourceUnit) → u .source ≡ e .unit .source → withUnit (record { source = e .unit .source; value = u .value; place = u .place }) e ≡ withUnit u e
-moved-unit e u h = λ i. withUnit (record { source = sym h i; value = u .value; place = u .place }) e
-
 -- only the source of an event moves
-sounded-unit : (b : Step) (e : Event) → withUnit (record { source = e .unit .source; value = soundedEvent b e .unit .value; place = soundedEvent b e .unit .place }) e ≡ soundedEvent b e
-unfolding afterBlock steps
-sounded-unit b e = go (b .tick) (ltb (firstPlace (spanIn b) e) (endPlace (spanIn b) e))
+sounded-unit : (b : Step) (e : Event) → withPlace (soundedEvent b e .unit .place) (withValue (soundedEvent b e .unit .value) e) ≡ soundedEvent b e
+unfolding steps
+sounded-unit b e = go (b .tick)
   where
-    to : Bool → Bool → Event
-    to c d = cond c (afterTick e) (cond d (withUnit (advancedBy (e .unit) (endPlace (spanIn b) e - firstPlace (spanIn b) e)) e) e)
+    to : Bool → Event
+    to c = cond c (afterTick e) (afterBlock (spanIn b) e)
 
-    go : (c d : Bool) → withUnit (record { source = e .unit .source; value = to c d .unit .value; place = to c d .unit .place }) e ≡ to c d
-    go true d = moved-unit e (advanced (e .unit)) (source-stays (e .unit) 1)
-    go false true = moved-unit e (advancedBy (e .unit) (endPlace (spanIn b) e - firstPlace (spanIn b) e)) (source-stays (e .unit) (endPlace (spanIn b) e - firstPlace (spanIn b) e))
-    go false false = refl
-
-pub moved-on : (b : Step) (xs : List Event) (i : ℕ) {u : SourceUnit} → u ≡ soundedEvent b (getD xs i blank) .unit
-    → set (set xs i (withValue (u .value) (getD xs i blank))) i (withPlace (u .place) (getD (set xs i (withValue (u .value) (getD xs i blank))) i blank)) ≡ set xs i (soundedEvent b (getD xs i blank))
-moved-on b xs i {u} h =
-    twice (withValue (u .value)) (withPlace (u .place)) blank xs i
-    ∙ ap (λ (v : SourceUnit). set xs i (withUnit (record { source = getD xs i blank .unit .source; value = v .value; place = v .place }) (getD xs i blank))) h
-    ∙ ap (set xs i) (sounded-unit b (getD xs i blank))
+    go : (c : Bool) → withPlace (to c .unit .place) (withValue (to c .unit .value) e) ≡ to c
+    go true = λ i. withUnit (record { source = sym (source-stays (e .unit) 1) i; value = advanced (e .unit) .value; place = advanced (e .unit) .place }) e
+    go false = source-moves (spanIn b) e
 
 -- the pass goes on so
 pub passing-moved : (b : Step) {T : Type 0} {plus : T → Event → T} {z : T} {J : Sequencer} {m i : ℕ} {S : Sequencer} {x y : T} {u : SourceUnit} → u ≡ soundedEvent b (getD (S .active) i blank) .unit
     → y ≡ plus x (getD (S .active) i blank) → i < m → Passing (soundedEvent b) plus z Forward J m i S x
-    → Passing (soundedEvent b) plus z Forward J m (i + 1)
-    (withSounding S (set (set (S .active) i (withValue (u .value) (getD (S .active) i blank))) i (withPlace (u .place) (getD (set (S .active) i (withValue (u .value) (getD (S .active) i blank))) i blank)))) y
-passing-moved b {T} {plus} {z} {J} {m} {i} {S} {x} {y} {u} h q l w =
-    subst (λ (xs : List Event). Passing (soundedEvent b) plus z Forward J m (i + 1) (withSounding S xs) y) (sym (moved-on b (S .active) i h)) (passing-on refl refl q l w)
+    → Passing (soundedEvent b) plus z Forward J m (i + 1) (withSounding S (sourceStoredAt (S .active) i u)) y
+passing-moved b = passing-stored (sounded-unit b) refl
 
 -- before the events start: n were let go, and k finished ones are left
 pub begun : (b : Step) (s : Sequencer) {n k : ℕ} → n ≡ begunIn b s .«let_go» → k ≡ begunIn b s .«past_len» → withTimes (withPast (withLetGo s n) (s .past) k) (s .time) (b .threshold) ≡ begunIn b s

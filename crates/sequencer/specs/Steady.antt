@@ -1,6 +1,6 @@
 -- The scan and the pass of a tick and of a block, and the beginning of one in which no list changes.
 use mathlib.Core.Bool.{Bool, true, false, not, _&&_, _||_}
-use mathlib.Core.List.{List}
+use mathlib.Core.List.{List, [], _∷_}
 use mathlib.Core.Path.{_≡_, refl, sym, ap, _∙_, subst}
 use Prim.Native.Nat.{ℕ, zero, suc, _+_, _-_, _^_, _%_, _≤_, _<_, min}
 use native.Mathlib.Omega.{arith}
@@ -14,13 +14,33 @@ use Rattle.event.specs.declared.Event.{Event}
 use Rattle.event.specs.declared.MixOrder.{MixOrder}
 use Rattle.event.specs.declared.ReplayMode.{ReplayMode}
 use Rattle.event.specs.declared.ReplayMode.the-variants.{All, None}
-use Rattle.event.specs.Events.{blank}
+use Rattle.event.specs.declared.Unit.{Unit}
+use Rattle.event.specs.Events.{blank, withUnit}
 use Rattle.floats.specs.Arithmetic.{_+ᵈ_, _-ᵈ_, _×ᵈ_, _<ᶠ_, _≤ᶠ_, halfᶠ}
 use Rattle.sequencer.specs.declared.Sequencer.{Sequencer}
 use Rattle.sequencer.specs.Parts.{withPast, withTimes, withLetGo, withSounding}
 use Rattle.sequencer.specs.Moves.{releasedPast, activates, readyToActive, finishes, activeToPast, advanced}
 use Rattle.sequencer.specs.Turns.{Activating, activated-none, activated-late, Finishing, finished-end, finished-beyond, finishing-on}
 use Rattle.sequencer.specs.Rendering.{releases, listsChange, Passed, mixPlace, passes}
+
+-- ---- a source that moves on where its event stands
+
+abbrev pub withValue : (v : Float) → Event → Event
+withValue v e = withUnit (record { source = e .unit .source; value = v; place = e .unit .place }) e
+
+abbrev pub withPlace : (n : ℕ) → Event → Event
+withPlace n e = withUnit (record { source = e .unit .source; value = e .unit .value; place = n }) e
+
+-- the value and then the place of u are stored at place k
+abbrev pub sourceStoredAt : List Event → (k : ℕ) → Unit → List Event
+sourceStoredAt xs k u =
+    let ys = set xs k (withValue (u .value) (getD xs k blank)) in
+    set ys k (withPlace (u .place) (getD ys k blank))
+
+twice : {A : Type 0} (f g : A → A) (d : A) (xs : List A) (i : ℕ) → set (set xs i (f (getD xs i d))) i (g (getD (set xs i (f (getD xs i d))) i d)) ≡ set xs i (g (f (getD xs i d)))
+twice f g d [] i = refl
+twice f g d (x ∷ xs) zero = refl
+twice f g d (x ∷ xs) (suc i) = ap (λ (r : List _). x ∷ r) (twice f g d xs i)
 
 -- ---- the pass: of the m active events of J, i have been added to x and replaced, which made S
 
@@ -58,6 +78,15 @@ module _ {T : Type 0} {next : Event → Event} {plus : T → Event → T} {z : T
           where
             turn : ℕ → Passed Event T
             turn j = passes next plus blank order f (set (S .active) j (next (getD (S .active) j blank))) (suc i) (plus x (getD (S .active) j blank))
+
+    -- the same where only the value and the place of the event's source are stored, one after the other
+    pub passing-stored : {k : ℕ} {u : Unit} {y : T} → ((e : Event) → withPlace (next e .unit .place) (withValue (next e .unit .value) e) ≡ next e) → k ≡ mixPlace order i (m - 1 - i)
+        → u ≡ next (getD (S .active) k blank) .unit → y ≡ plus x (getD (S .active) k blank) → i < m → Passing next plus z order J m i S x
+        → Passing next plus z order J m (i + 1) (withSounding S (sourceStoredAt (S .active) k u)) y
+    passing-stored {k} {u} {y} only h p q l w =
+        let e = getD (S .active) k blank in
+        let one = twice (withValue (u .value)) (withPlace (u .place)) blank (S .active) k ∙ ap (λ (v : Unit). set (S .active) k (withPlace (v .place) (withValue (v .value) e))) p ∙ ap (set (S .active) k) (only e) in
+        subst (λ (xs : List Event). Passing next plus z order J m (i + 1) (withSounding S xs) y) (sym one) (passing-on h refl q l w)
 
     pub passing-end : {a : Sequencer} → J ≡ a → m ≤ i → Passing next plus z order J m i S x → (S ≡ withSounding a (passOf next plus z order a .items)) × (x ≡ passOf next plus z order a .sum)
     unfolding passes

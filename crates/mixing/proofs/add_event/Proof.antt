@@ -8,7 +8,6 @@ use lib.Dec.{leb}
 use lib.ListN.{length}
 use Rattle.event.specs.declared.Event.{Event}
 use Rattle.ledger.specs.BlockSamples.{channelAfter, afterBlock}
-use Rattle.mixing.specs.declared.Processed.{Processed}
 use Rattle.mixing.specs.Blocks.{asSpan}
 use Rattle.mixing.specs.Placed.{fadesIn, fadesOut}
 use Rattle.mixing.proofs.Plain.{is-plain, through-unit, through-channel}
@@ -36,15 +35,15 @@ returns c =
 
 returns-2 : tie.Need-returns-2
 returns-2 c =
-    let a = c .before .before .before .before .before .before .before .before .before .before .before .args in
+    let a = c .before .before .before .before .before .before .before .before .before .args in
     let b = asSpan (a .span) in
-    let same = c .before .before .before .before .before .before .copied .ensures in (
-      ap (λ (p : Processed). p .unit) (c .before .before .before .process-event .ensures .0) ∙ ap (λ (e : Event). afterBlock b e .unit) same,
-      c .before .before .before .process-event .ensures .1 ∙ ap (λ (e : Event). channelAfter (now (a .pool)) b e (now (a .channel))) same,
+    let same = c .before .before .before .before .copied .ensures in (
+      c .before .before .process-event .ensures .0 ∙ ap (λ (e : Event). afterBlock b e .unit) same,
+      c .before .before .process-event .ensures .1 ∙ ap (λ (e : Event). channelAfter (now (a .pool)) b e (now (a .channel))) same,
     )
 
 pub add-event-spec : {M : Type 1} → statement M
 add-event-spec =
     tie.close
     (tie.spec (λ c κs. search needs) (λ c κs. search needs) (λ c κs. search needs) add-plain-requires (λ c. search needs) returns
-    (λ c κs. search needs) (λ c κs. search needs) (λ c κs. search needs) (λ c. search needs) returns-2)
+    (λ c κs. search needs) (λ c κs. search needs) (λ c. search needs) returns-2)

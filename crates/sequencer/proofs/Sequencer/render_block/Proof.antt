@@ -12,19 +12,18 @@ use lib.Ieee.{Float, ofBits}
 use lib.ListN.{length, getD, take, drop, replicate}
 use Rattle.event.specs.declared.MixOrder.{MixOrder}
 use Rattle.event.specs.declared.Placings.{Placings}
-use Rattle.event.specs.Events.{blank, withUnit}
+use Rattle.event.specs.Events.{blank}
 use Rattle.event.specs.Placings.{noPlacings}
 use lib.Seq.{length-take-le, take-at}
 use Rattle.floats.specs.Arithmetic.{_+ᵈ_, _×ᵈ_, zeroᶠ, whole-is}
 use Rattle.ledger.specs.BlockSamples.{Span, channelAfter, afterBlock, overlay}
-use Rattle.mixing.specs.declared.Processed.{Processed}
 use Rattle.mixing.specs.Blocks.{asSpan, clearedPlaces}
-use Rattle.mixing.specs.Placed.{unit-changes}
 use Rattle.sequencer.specs.declared.Sequencer.{Sequencer}
 use Rattle.sequencer.specs.Parts.{withSounding}
 use Rattle.sequencer.specs.Moves.{advanced}
 use Rattle.sequencer.specs.Rendering.{addBlock, blockPass, addPlaces, placesPass, renderedBlock, renderedPlaces, renderedBlockOut}
-use Rattle.sequencer.specs.Steady.{Passing, passing-start, passing-on, passOf, passing-end, Scanning, scanning-start, scanning-on, steady}
+use Rattle.sequencer.specs.Steady.{Passing, passing-start, passing-stored, passOf, passing-end, Scanning, scanning-start, scanning-on, steady}
+use Rattle.mixing.specs.Placed.{source-moves}
 use Rattle.sequencer.proofs.Sequencer.render_block.Statement.{statement}
 use Rattle.sequencer.proofs.Sequencer.render_block.Tie as tie
 
@@ -58,8 +57,7 @@ abbrev μ-loop : tie.MeasureT-loop
 μ-loop order size pool out self time end span limit threshold n k₀ k = n - k
 
 abbrev Inv-loop2 : tie.InvT-loop2
-Inv-loop2 order size pool out self₀ time end span limit threshold n k m w places₀ mix₀ i₀ self places mix i =
-    Passing (afterBlock (asSpan span)) (addBlock pool (asSpan span)) (replicate (clearedPlaces size) zeroᶠ) order self₀ m i self (take w mix)
+Inv-loop2 order size pool out self₀ time end span limit threshold n k m w places₀ mix₀ i₀ self places mix i = Passing (afterBlock (asSpan span)) (addBlock pool (asSpan span)) (replicate (clearedPlaces size) zeroᶠ) order self₀ m i self (take w mix)
     × Passing (afterBlock (asSpan span)) (addPlaces (asSpan span)) noPlacings order self₀ m i self places
     × (length mix ≡ 64)
 
@@ -76,47 +74,51 @@ begun c =
     let s = c .before .before .before .before .before .before .before .before .before .args .t1 in
     ⊎-elim (λ w. w .2 ∙ w .1 .ensures) (λ w. w .1 ∙ steady (endBy s (c .before .before .before .before .before .before .nearest-u64-to-f64 .result)) (let-go-fits (c .before .before .before .before .before .before .before .before .before)) (c .before .before .before .before .loop .inv) (c .before .lists-change .ensures) (w .0 .left)) (c .if2 .came)
 
+loop-holds : tie.Need-loop-holds Inv-loop μ-loop Inv-loop2 μ-loop2
+loop-holds c = scanning-start (c .least .ensures)
+
 loop-again : tie.Need-loop-again Inv-loop μ-loop Inv-loop2 μ-loop2
 loop-again c = scanning-on (c .before .before .before .loop-test .taken) (c .if1 .left) (c .before .before .before .before .loop .inv)
 
 loop2-holds : tie.Need-loop2-holds Inv-loop μ-loop Inv-loop2 μ-loop2
 unfolding ofBits
 loop2-holds c =
-    let d = c .before in
-    let k = d .cleared-places .result in (
-      passing-start (d .before .least2 .ensures) (take-replicate k 64 zeroᶠ (omega (arith, d .cleared-places .ensures)) ∙ ap (λ (n : ℕ). replicate n zeroᶠ) (d .cleared-places .ensures)),
-      passing-start (d .before .least2 .ensures) (c .new .ensures),
+    let k = c .before .cleared-places .result in (
+      passing-start (c .before .before .least2 .ensures) (take-replicate k 64 zeroᶠ (omega (arith, c .before .cleared-places .ensures)) ∙ ap (λ (n : ℕ). replicate n zeroᶠ) (c .before .cleared-places .ensures)),
+      passing-start (c .before .before .least2 .ensures) (c .new .ensures),
       refl,
     )
 
 part-mix-end : tie.Need-part-mix-end Inv-loop μ-loop Inv-loop2 μ-loop2
 part-mix-end c = omega (arith, c .before .before .before .before .before .cleared-places .ensures, c .before .before .before .loop2 .inv .2)
 
-mul-event-3 : tie.Need-mul-event-3 Inv-loop μ-loop Inv-loop2 μ-loop2
-mul-event-3 c = omega (arith, c .before .before .before .before .before .before .before .loop2 .inv .0 .count, c .before .before .before .before .before .mix-place .ensures .1)
+mul-self : tie.Need-mul-self Inv-loop μ-loop Inv-loop2 μ-loop2
+mul-self c = omega (arith, c .before .before .before .before .before .before .loop2 .inv .0 .count, c .before .before .before .before .mix-place .ensures .1)
 
-element-set-from-event : tie.Need-element-set-from-event Inv-loop μ-loop Inv-loop2 μ-loop2
-element-set-from-event c = omega (arith, c .before .before .before .before .before .before .before .loop2 .inv .0 .count, c .before .before .before .before .before .mix-place .ensures .1)
+way-write-given-self : tie.Need-way-write-given-self Inv-loop μ-loop Inv-loop2 μ-loop2
+way-write-given-self c = omega (arith, c .before .before .before .before .before .before .loop2 .inv .0 .count, c .before .before .before .before .mix-place .ensures .1)
+
+mul-self-2 : tie.Need-mul-self-2 Inv-loop μ-loop Inv-loop2 μ-loop2
+mul-self-2 c = omega (arith, c .before .before .before .before .before .before .before .loop2 .inv .0 .count, c .before .before .before .before .before .mix-place .ensures .1)
+
+way-write-given-self-2 : tie.Need-way-write-given-self-2 Inv-loop μ-loop Inv-loop2 μ-loop2
+way-write-given-self-2 c = omega (arith, c .before .before .before .before .before .before .before .loop2 .inv .0 .count, c .before .before .before .before .before .mix-place .ensures .1)
 
 loop2-again : tie.Need-loop2-again Inv-loop μ-loop Inv-loop2 μ-loop2
 loop2-again c =
-    let p = c .before .before .before .before .before .before in
-    let t = p .before in
-    let l = t .before .loop2 in
-    let d = t .before .before .before in
-    let k = d .cleared-places .result in
-    let r = c .before .before .before .process-event in
+    let l = c .before .before .before .before .before .before .before .before .before .loop2 in
+    let k = c .before .before .before .before .before .before .before .before .before .before .before .cleared-places .result in
+    let r = c .before .before .before .before .process-event in
+    let place = c .before .before .before .before .before .before .before .mix-place .ensures .0 in
     let ys = r .last .1 .1 .1 .0 in
     let kept = r .kept .1 .1 .1 .0 in
-    let h : k ≤ length (l .mix) = omega (arith, d .cleared-places .ensures, l .inv .2) in
+    let h : k ≤ length (l .mix) = omega (arith, c .before .before .before .before .before .before .before .before .before .before .before .cleared-places .ensures, l .inv .2) in
     let q : take k (ys ++ drop (k - 0) (l .mix)) ≡ ys = take-at ys (drop (k - 0) (l .mix)) k (kept ∙ rw sub-zero (length-take-le k (l .mix) h)) in
-    let a = d .before .before .before .before .before .before .before .before .before .before .before .args in
-    let b = until (a .t1) (a .size) (endBy (a .t1) (d .before .before .before .before .before .before .before .before .nearest-u64-to-f64 .result)) in
-    let v : ys ≡ channelAfter (now (a .pool)) b (getD (l .self .active) (p .mix-place .result) blank) (take k (l .mix)) = r .ensures .1 ∙ rw sub-zero in
-    let o = getD (l .self .active) (p .mix-place .result) blank in
-    let e = ap (λ (p : Processed). withUnit (p .unit) o) (r .ensures .0) ∙ unit-changes b o in (
-      passing-on (p .mix-place .ensures .0) e (q ∙ v) (t .loop2-test .taken) (l .inv .0),
-      passing-on (p .mix-place .ensures .0) e (ap (λ (p : Processed). p .places) (r .ensures .0)) (t .loop2-test .taken) (l .inv .1),
+    let a = c .before .before .before .before .before .before .before .before .before .before .before .before .before .before .before .before .before .before .before .before .before .before .args in
+    let b = until (a .t1) (a .size) (endBy (a .t1) (c .before .before .before .before .before .before .before .before .before .before .before .before .before .before .before .before .before .before .before .nearest-u64-to-f64 .result)) in
+    let v : ys ≡ channelAfter (now (a .pool)) b (getD (l .self .active) (c .before .before .before .before .before .before .before .mix-place .result) blank) (take k (l .mix)) = r .ensures .1 ∙ rw sub-zero in (
+      passing-stored (source-moves b) place (r .ensures .0) (q ∙ v) (c .before .before .before .before .before .before .before .before .loop2-test .taken) (l .inv .0),
+      passing-stored (source-moves b) place (r .ensures .0) (c .count-places .ensures) (c .before .before .before .before .before .before .before .before .loop2-test .taken) (l .inv .1),
       same-len-mid 0 (k - 0) (l .mix) ys kept ∙ l .inv .2,
     )
 
@@ -142,9 +144,9 @@ returns c =
 pub render-block-spec : {M : Type 1} → statement M
 render-block-spec =
     tie.close
-    (tie.spec Inv-loop μ-loop Inv-loop2 μ-loop2 (λ c κs. search needs) (λ c κs. search needs) (λ c. scanning-start (c .least .ensures))
-    (λ c. search needs) (λ c. search needs) (λ c. search needs) (λ c. search needs) loop-again (λ c. search needs) (λ c κs. search needs)
-    (λ c κs. search needs) (λ c κs. search needs) (λ c κs. search needs) (λ c κs. search needs) loop2-holds (λ c κs. search needs) (λ c. search needs) (λ c. search needs)
-    (λ c. search needs) (λ c. search needs) part-mix-end (λ c κs. search needs) mul-event-3 element-set-from-event (λ c. search needs)
-    (λ c. search needs) loop2-again (λ c. search needs) (λ c. search needs) part-overlay-channels-end (λ c κs. search needs)
-    (λ c. search needs) returns)
+    (tie.spec Inv-loop μ-loop Inv-loop2 μ-loop2 (λ c κs. search needs) (λ c κs. search needs) loop-holds (λ c. search needs)
+    (λ c. search needs) (λ c. search needs) (λ c. search needs) loop-again (λ c. search needs) (λ c κs. search needs) (λ c κs. search needs)
+    (λ c κs. search needs) (λ c κs. search needs) (λ c κs. search needs) loop2-holds (λ c κs. search needs) (λ c. search needs)
+    (λ c. search needs) (λ c. search needs) (λ c. search needs) part-mix-end (λ c κs. search needs) mul-self way-write-given-self mul-self-2
+    way-write-given-self-2 (λ c κs. search needs) (λ c. search needs) (λ c. search needs) loop2-again (λ c. search needs)
+    (λ c. search needs) part-overlay-channels-end (λ c κs. search needs) (λ c. search needs) returns)
