@@ -1,4 +1,4 @@
-// What the programs share that make a page of a tape (trail_sheet, trail_story): their arguments, the pool, the tape's records by their places in the file, and writing. For programs: of what a call of
+// What the programs share that make a page of a tape (trail_sheet, trail_story): their arguments, the pool, and the tape's records by their places in the file. For programs: of what a call of
 // C's reads or writes no contract can speak. What is decided of it is said by the definitions of specs/Arguments.antt, specs/Records.antt.
 ghost use mathlib.Core.Path.{_≡_};
 ghost use mathlib.Core.Bool.{_&&_};
@@ -141,15 +141,7 @@ pub fn record(who: &[u8], fd: i32, at: u64, first: bool) -> Read
     Read::End
 }
 
-// ---- writing
-
-// Writes the first n bytes of a text, where it has so many.
-pub fn say(text: &[u8], n: usize) {
-    if text.len() < n {
-        return;
-    }
-    io::write_all(1, &text[..n]);
-}
+// ---- small values
 
 pub fn both(a: bool, b: bool) -> bool
     ensures { λ r. ⌜ r ≡ (a && b) ⌝ }

@@ -1,7 +1,6 @@
 // The page's elements, written as they come.
 use sequencer::Answer;
 use sequencer::Sequencer;
-use tape_pages::say;
 
 // What a page is drawn by: whether this is the time to draw, how long the tape plays, how many clips were laid and from which number on, and how many channels.
 pub(crate) struct Page {
@@ -16,6 +15,14 @@ pub(crate) struct Page {
 pub(crate) struct LastMark {
     pub(crate) x: u64,
     pub(crate) row: u64,
+}
+
+// Writes the first n bytes of a text, where it has so many.
+pub(crate) fn say(text: &[u8], n: usize) {
+    if text.len() < n {
+        return;
+    }
+    io::write_all(1, &text[..n]);
 }
 
 fn plus(a: u64, b: u64) -> u64 {

@@ -1,6 +1,6 @@
 // The wave of each channel: a peak for each of 1,401 columns, drawn as a bar about the middle.
+use crate::page::say;
 use tape_pages::larger;
-use tape_pages::say;
 
 fn plus(a: u64, b: u64) -> u64 {
     std::num::wrapping_add_u64(a, b)

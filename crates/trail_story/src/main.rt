@@ -6,7 +6,14 @@ use tape::reader::Call;
 use tape::reader::Read;
 use tape_pages::both;
 use tape_pages::larger;
-use tape_pages::say;
+
+// Writes the first n bytes of a text, where it has so many.
+fn say(text: &[u8], n: usize) {
+    if text.len() < n {
+        return;
+    }
+    io::write_all(1, &text[..n]);
+}
 
 // ---- clips
 

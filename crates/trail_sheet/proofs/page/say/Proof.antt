@@ -1,10 +1,10 @@
--- `tape_pages::say` is safe. Assumes nothing.
+-- `trail_sheet::page::say` is safe. Assumes nothing.
 use mathlib.Core.Path.{sym}
 use lib.Seq.{length-take-le}
 use native.Mathlib.Omega.{arith}
 use borrow.Author.Needs.{needs}
-use Rattle.tape_pages.proofs.say.Statement.{statement}
-use Rattle.tape_pages.proofs.say.Tie as tie
+use Rattle.trail_sheet.proofs.page.say.Statement.{statement}
+use Rattle.trail_sheet.proofs.page.say.Tie as tie
 
 slice-aggregate-write-all : tie.Need-slice-aggregate-write-all
 slice-aggregate-write-all c = sym (length-take-le _ _ (omega arith))
