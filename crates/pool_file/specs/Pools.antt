@@ -33,6 +33,10 @@ names = (refl, refl, refl, refl)
 unfoldable pub isOption : (argument : List ℕ) → Bool
 isOption a = eqb (length a) 6 && eqb (field a 0 6) option
 
+-- the option's line of a usage
+abbrev pub optionLine : List ℕ
+optionLine = ascii "Clips read from FILE, a WAV of one channel of 32-bit floats or a file of such samples; without it, from document 01's pool.\n"
+
 -- whether the format at a place is one channel of IEEE floats of 32 bits: by its number, 3, or in the long form, FFFE, by that of its kind
 unfoldable pub monoFloat : (file : List ℕ) → (at : ℕ) → Bool
 monoFloat file at =

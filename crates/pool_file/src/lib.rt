@@ -4,7 +4,7 @@ ghost use mathlib.Core.Path.{_≡_};
 ghost use Prim.Native.Nat.{_≤_};
 ghost use lib.ListN.{length, drop};
 ghost use mathlib.Core.List.{_++_};
-ghost use Rattle.pool_file.specs.Pools.{isOption, monoFloat, knownBy, placeOf, nowhere as noPlace, trailLoaded, withTrailPool};
+ghost use Rattle.pool_file.specs.Pools.{isOption, optionLine, monoFloat, knownBy, placeOf, nowhere as noPlace, trailLoaded, withTrailPool};
 use tape::fields;
 
 // Room for the longest pool.
@@ -108,11 +108,10 @@ pub fn is_option(argument: &[u8]) -> bool
 }
 
 // The option's line of a usage.
-pub fn say_option() {
-    io::write_all(
-        2,
-        b"Clips read from FILE, a WAV of one channel of 32-bit floats or a file of such samples; without it, from document 01's pool.\n",
-    );
+pub fn option_line() -> [u8; 124]
+    ensures { λ r. ⌜ r ≡ optionLine ⌝ }
+{
+    *b"Clips read from FILE, a WAV of one channel of 32-bit floats or a file of such samples; without it, from document 01's pool.\n"
 }
 
 // How many samples a pool has; `good` where it can be used.

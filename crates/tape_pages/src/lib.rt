@@ -54,7 +54,7 @@ fn usage(who: &[u8], what: &[u8]) {
     io::write_all(2, who);
     io::write_all(2, b" TAPE [--pool FILE]\n");
     io::write_all(2, what);
-    pool_file::say_option();
+    io::write_all(2, &pool_file::option_line());
 }
 
 // The pool of the file that an argument names, or document 01's.

@@ -13,7 +13,7 @@ pub(crate) fn usage() {
         2,
         b"Lists the tape on standard input: for each record its kind, its refusal or 0, and the counts waiting, sounding, finished and let go; then the samples' bits, a line a channel.\n",
     );
-    pool_file::say_option();
+    io::write_all(2, &pool_file::option_line());
     io::write_all(
         2,
         b"docs/HANDBOOK.md says what a tape is; tape_text makes one from text.\n",

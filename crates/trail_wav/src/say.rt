@@ -36,7 +36,7 @@ pub(crate) fn usage() {
         2,
         b"Plays the tape TAPE into OUT.wav, a WAV of 32-bit float samples, channels interleaved.\n",
     );
-    pool_file::say_option();
+    io::write_all(2, &pool_file::option_line());
     io::write_all(
         2,
         b"docs/HANDBOOK.md says what a tape is; tape_text makes one from text.\n",
