@@ -27,6 +27,15 @@ fn list_numbers(numbers: &[u64]) {
     io::write_all(1, b"\n");
 }
 
+// The engine behind a run.
+fn list_engine(s: Sequencer) {
+    let mut text = [0u8; 1024];
+    let n = state_listing::engine_line(32, Answer::Done, s, &mut text);
+    if n <= 1024 {
+        io::write_all(1, &text[..n]);
+    }
+}
+
 fn push_records(
     s: Sequencer,
     records: &[u8],
@@ -42,7 +51,7 @@ fn push_records(
     io::print_decimal(1, b.ended);
     list_numbers(numbers);
     let s = b.sequencer;
-    state_output::list_engine(32, Answer::Done, s);
+    list_engine(s);
     s
 }
 

@@ -255,6 +255,15 @@ fn stop(r: Read, d: SequencerBackend) {
     lines::stop(r, counts(d))
 }
 
+// Writes the line of a record's answer and of the desk behind it.
+fn list_desk(kind: u8, answer: Answer, d: SequencerBackend) {
+    let mut text = [0u8; 1024];
+    let n = state_listing::desk_line(kind, answer, d, &mut text);
+    if n <= 1024 {
+        io::write_all(1, &text[..n]);
+    }
+}
+
 // Lists an applied record and the state; false where the listing ends there.
 fn list(kind: u8, p: Played, samples: &[f32]) -> bool {
     let d = p.backend;
@@ -270,7 +279,7 @@ fn list(kind: u8, p: Played, samples: &[f32]) -> bool {
         return false;
     }
     let answer = p.answer;
-    state_output::list_desk(kind, answer, d);
+    list_desk(kind, answer, d);
     true
 }
 

@@ -5,7 +5,6 @@ use runs::least;
 use sequencer::Answer;
 use sequencer::Outcome;
 use sequencer::Sequencer;
-use state_output::list_engine;
 use tape::reader::Call;
 use tape::reader::Cursor;
 use tape::reader::EditRecord;
@@ -87,6 +86,15 @@ fn play(s: Sequencer, call: Call, pool: &[f32], samples: &mut [f32]) -> Outcome 
         Call::EditRelative(p) => edit(s, 5, p),
         Call::Process(n) => process(s, n as usize, pool, samples),
         _ => rest(apply::apply(s, call, pool, samples)),
+    }
+}
+
+// Writes the line of a record's answer and of the engine behind it.
+fn list_engine(kind: u8, answer: Answer, s: Sequencer) {
+    let mut text = [0u8; 1024];
+    let n = state_listing::engine_line(kind, answer, s, &mut text);
+    if n <= 1024 {
+        io::write_all(1, &text[..n]);
     }
 }
 

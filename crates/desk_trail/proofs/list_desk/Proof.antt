@@ -1,0 +1,16 @@
+-- `desk_trail::list_desk` is safe and ends: the line is within the text. Assumes nothing.
+use mathlib.Core.Path.{sym}
+use lib.Seq.{length-take-le}
+use native.Mathlib.Omega.{arith}
+use borrow.Author.Needs.{needs}
+use Rattle.desk_trail.proofs.list_desk.Statement.{statement}
+use Rattle.desk_trail.proofs.list_desk.Tie as tie
+
+slice-aggregate-write-all : tie.Need-slice-aggregate-write-all
+slice-aggregate-write-all c = sym (length-take-le _ _ (omega arith))
+
+pub list-desk-spec : {M : Type 1} → statement M
+list-desk-spec =
+    tie.close
+    (tie.spec (λ c. search needs) (λ c κs. search needs) (λ c. search needs) slice-aggregate-write-all (λ c κs. search needs)
+    (λ c. search needs) (λ c. search needs))
