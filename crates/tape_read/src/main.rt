@@ -170,24 +170,15 @@ fn read_tape() {
 }
 
 fn usage() {
-    io::write_all(2, b"usage: tape_read <TAPE >ARGUMENTS\n");
     io::write_all(
         2,
-        b"Takes the tape on standard input apart: for each record its arguments, 120 bytes.\n",
-    );
-    io::write_all(
-        2,
-        b"docs/HANDBOOK.md says what a tape is; tape_text makes one from text.\n",
+        b"usage: tape_read <TAPE >ARGUMENTS\nTakes the tape on standard input apart: for each record its arguments, 120 bytes.\ndocs/HANDBOOK.md says what a tape is; tape_text makes one from text.\n",
     );
 }
 
 // There are no arguments; on a terminal nothing could be read.
 fn main() {
-    if libc::isatty(0) == 1 {
-        usage();
-        return;
-    }
-    if 1 < os::arg_count() {
+    if libc::isatty(0) == 1 || 1 < os::arg_count() {
         usage();
         return;
     }

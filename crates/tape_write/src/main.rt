@@ -94,24 +94,15 @@ fn write_tape() {
 }
 
 fn usage() {
-    io::write_all(2, b"usage: tape_write <ARGUMENTS >TAPE\n");
     io::write_all(
         2,
-        b"Puts a tape together from the arguments on standard input, 120 bytes a record.\n",
-    );
-    io::write_all(
-        2,
-        b"docs/HANDBOOK.md says what a tape is; tape_text makes one from text.\n",
+        b"usage: tape_write <ARGUMENTS >TAPE\nPuts a tape together from the arguments on standard input, 120 bytes a record.\ndocs/HANDBOOK.md says what a tape is; tape_text makes one from text.\n",
     );
 }
 
 // There are no arguments; on a terminal nothing could be read.
 fn main() {
-    if libc::isatty(0) == 1 {
-        usage();
-        return;
-    }
-    if 1 < os::arg_count() {
+    if libc::isatty(0) == 1 || 1 < os::arg_count() {
         usage();
         return;
     }
