@@ -1,8 +1,9 @@
--- The table, by computation: a number of each part, and numbers that are no refusal. Assumes nothing.
+-- The table, by computation: its ends, and numbers that are no refusal. Assumes nothing.
 use mathlib.Core.Path.{_≡_, refl}
 use mathlib.Core.List.{[], _∷_, map}
-use Rattle.refusal_texts.specs.Texts.{textOf, firstTexts, secondTexts, thirdTexts, lastTexts, text1, text4, text6, text7, text12, text13, text18, text19, text24, noText}
+use Rattle.listing.specs.Ascii.{ascii}
+use Rattle.refusal_texts.specs.Texts.{textOf, texts}
 
-pub ends-of-parts : map textOf (0 ∷ 1 ∷ 4 ∷ 6 ∷ 7 ∷ 12 ∷ 13 ∷ 18 ∷ 19 ∷ 24 ∷ 25 ∷ []) ≡ noText ∷ text1 ∷ text4 ∷ text6 ∷ text7 ∷ text12 ∷ text13 ∷ text18 ∷ text19 ∷ text24 ∷ noText ∷ []
-unfolding textOf firstTexts secondTexts thirdTexts lastTexts
-ends-of-parts = refl
+pub ends-of-table : map textOf (0 ∷ 1 ∷ 24 ∷ 25 ∷ []) ≡ ascii "no refusal" ∷ ascii "the channels are not 1 to 8, or the first number is 0" ∷ ascii "a preview's first entry is above 1,024" ∷ ascii "no refusal" ∷ []
+unfolding textOf texts
+ends-of-table = refl

@@ -1,11 +1,12 @@
-// The refusals of documents 01 and 02 in words: one table for every page, in four parts.
+// The refusals of documents 01 and 02 in words: one table for every page.
 ghost use mathlib.Core.Path.{_≡_};
 ghost use Rattle.listing.specs.Pieces.{text, add};
-ghost use Rattle.refusal_texts.specs.Texts.{textOf, firstTexts, secondTexts, thirdTexts, lastTexts};
+ghost use Rattle.refusal_texts.specs.Texts.{textOf};
 use listing::pieces::put_bytes;
 
-fn first_texts(number: u64, out: &mut [u8], at: usize) -> usize
-    ensures { λ r. ⌜ text (now (out .exit)) r ≡ add (firstTexts number) (text (now (out .entry)) at) ⌝ }
+// Puts the text of a refusal into a lent buffer, and answers the next free place. A text that has no room is left out, and the place stays.
+pub fn refusal_text(number: u64, out: &mut [u8], at: usize) -> usize
+    ensures { λ r. ⌜ text (now (out .exit)) r ≡ add (textOf number) (text (now (out .entry)) at) ⌝ }
 {
     match number {
         1 => put_bytes(
@@ -22,14 +23,6 @@ fn first_texts(number: u64, out: &mut [u8], at: usize) -> usize
         4 => put_bytes(b"a fade is longer than the clip", out, at),
         5 => put_bytes(b"a level, ramp value or step is not finite", out, at),
         6 => put_bytes(b"256 clips are held", out, at),
-        _ => put_bytes(b"no refusal", out, at),
-    }
-}
-
-fn second_texts(number: u64, out: &mut [u8], at: usize) -> usize
-    ensures { λ r. ⌜ text (now (out .exit)) r ≡ add (secondTexts number) (text (now (out .entry)) at) ⌝ }
-{
-    match number {
         7 => put_bytes(b"the last number has been given", out, at),
         8 => put_bytes(
             b"an edit's end or fade is not a number, or is beyond 1,000,000,000",
@@ -40,14 +33,6 @@ fn second_texts(number: u64, out: &mut [u8], at: usize) -> usize
         10 => put_bytes(b"the lent output has another length", out, at),
         11 => put_bytes(b"a block is longer than 64", out, at),
         12 => put_bytes(b"the clock would pass 1,000,000,000 s", out, at),
-        _ => put_bytes(b"no refusal", out, at),
-    }
-}
-
-fn third_texts(number: u64, out: &mut [u8], at: usize) -> usize
-    ensures { λ r. ⌜ text (now (out .exit)) r ≡ add (thirdTexts number) (text (now (out .entry)) at) ⌝ }
-{
-    match number {
         13 => put_bytes(b"64 messages are queued", out, at),
         14 => put_bytes(
             b"a kind, mode, curve or source byte is unknown, or 00 is not first and only first",
@@ -66,14 +51,6 @@ fn third_texts(number: u64, out: &mut [u8], at: usize) -> usize
             at,
         ),
         18 => put_bytes(b"a gain is not finite", out, at),
-        _ => put_bytes(b"no refusal", out, at),
-    }
-}
-
-fn last_texts(number: u64, out: &mut [u8], at: usize) -> usize
-    ensures { λ r. ⌜ text (now (out .exit)) r ≡ add (lastTexts number) (text (now (out .entry)) at) ⌝ }
-{
-    match number {
         19 => put_bytes(b"the record does not fit behind the free place", out, at),
         20 => put_bytes(b"a peak's window is not from 1 to 4,096", out, at),
         21 => put_bytes(
@@ -86,20 +63,4 @@ fn last_texts(number: u64, out: &mut [u8], at: usize) -> usize
         24 => put_bytes(b"a preview's first entry is above 1,024", out, at),
         _ => put_bytes(b"no refusal", out, at),
     }
-}
-
-// Puts the text of a refusal into a lent buffer, and answers the next free place. A text that has no room is left out, and the place stays.
-pub fn refusal_text(number: u64, out: &mut [u8], at: usize) -> usize
-    ensures { λ r. ⌜ text (now (out .exit)) r ≡ add (textOf number) (text (now (out .entry)) at) ⌝ }
-{
-    if number < 7 {
-        return first_texts(number, out, at);
-    }
-    if number < 13 {
-        return second_texts(number, out, at);
-    }
-    if number < 19 {
-        return third_texts(number, out, at);
-    }
-    last_texts(number, out, at)
 }
