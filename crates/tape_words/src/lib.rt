@@ -1,6 +1,7 @@
 // Words of the pages about a tape, put piece by piece into a lent buffer (listing, pieces): each function answers the next free place, and a piece that has no room is left out.
 ghost use mathlib.Core.Path.{_≡_};
 ghost use mathlib.Core.Bool.{cond};
+ghost use mathlib.Core.List.{[], _∷_};
 ghost use Prim.Native.Nat.{_+_};
 ghost use lib.Dec.{eqb};
 ghost use Rattle.listing.specs.Pieces.{text, add, addAll};
@@ -40,6 +41,14 @@ pub fn put_by_place(
     }
 }
 
+// Words, and a number behind them.
+pub fn put_numbered(words: &[u8], n: u64, out: &mut [u8], at: usize) -> usize
+    ensures { λ r. ⌜ text (now (out .exit)) r ≡ addAll (now (words .entry) ∷ decimal n ∷ []) (text (now (out .entry)) at) ⌝ }
+{
+    let to = put_bytes(words, out, at);
+    put_decimal(n, out, to)
+}
+
 // A number of thousandths, with three decimals.
 pub fn put_thousandths(n: u64, out: &mut [u8], at: usize) -> usize
     ensures { λ r. ⌜ text (now (out .exit)) r ≡ addAll (thousandthsText n) (text (now (out .entry)) at) ⌝ }
@@ -59,6 +68,14 @@ pub fn put_time(micros: u64, out: &mut [u8], at: usize) -> usize
     put_bytes(b" ms", out, to)
 }
 
+// Words, and a time behind them.
+pub fn put_timed(words: &[u8], micros: u64, out: &mut [u8], at: usize) -> usize
+    ensures { λ r. ⌜ text (now (out .exit)) r ≡ addAll (now (words .entry) ∷ timeText micros) (text (now (out .entry)) at) ⌝ }
+{
+    let to = put_bytes(words, out, at);
+    put_time(micros, out, to)
+}
+
 // A magnitude's bits as a number with three decimals.
 pub fn put_peak(bits: u32, out: &mut [u8], at: usize) -> usize
     ensures { λ r. ⌜ text (now (out .exit)) r ≡ addAll (peakText bits) (text (now (out .entry)) at) ⌝ }
@@ -74,8 +91,7 @@ pub fn put_peak(bits: u32, out: &mut [u8], at: usize) -> usize
 pub fn put_refusal(which: u64, out: &mut [u8], at: usize) -> usize
     ensures { λ r. ⌜ text (now (out .exit)) r ≡ addAll (refusalText which) (text (now (out .entry)) at) ⌝ }
 {
-    let to = put_bytes(b"refused ", out, at);
-    let to = put_decimal(which, out, to);
+    let to = put_numbered(b"refused ", which, out, at);
     let to = put_bytes(b": ", out, to);
     refusal_texts::refusal_text(which, out, to)
 }
@@ -118,12 +134,9 @@ pub fn put_sum(
         to,
     );
     let to = put_decimal(waiting, out, to);
-    let to = put_bytes(b" waiting + ", out, to);
-    let to = put_decimal(sounding, out, to);
-    let to = put_bytes(b" sounding + ", out, to);
-    let to = put_decimal(finished, out, to);
-    let to = put_bytes(b" finished + ", out, to);
-    let to = put_decimal(let_go, out, to);
+    let to = put_numbered(b" waiting + ", sounding, out, to);
+    let to = put_numbered(b" sounding + ", finished, out, to);
+    let to = put_numbered(b" finished + ", let_go, out, to);
     put_bytes(b" let go", out, to)
 }
 
@@ -142,22 +155,14 @@ fn put_push(kind: u8, out: &mut [u8], at: usize) -> usize
     }
 }
 
-// An edit's name, and the number of the clip that it names.
-fn put_edit(name: &[u8], clip: u64, out: &mut [u8], at: usize) -> usize
-    ensures { λ r. ⌜ text (now (out .exit)) r ≡ add (decimal clip) (add (now (name .entry)) (text (now (out .entry)) at)) ⌝ }
-{
-    let to = put_bytes(name, out, at);
-    put_decimal(clip, out, to)
-}
-
 // A call's name, by its record's kind; an edit's with the number of its clip.
 pub fn put_call(kind: u8, clip: u64, out: &mut [u8], at: usize) -> usize
     ensures { λ r. ⌜ text (now (out .exit)) r ≡ addAll (callText kind clip) (text (now (out .entry)) at) ⌝ }
 {
     match kind {
         0 => put_bytes(b"creation", out, at),
-        4 => put_edit(b"edit of clip ", clip, out, at),
-        5 => put_edit(b"edit, relative, of clip ", clip, out, at),
+        4 => put_numbered(b"edit of clip ", clip, out, at),
+        5 => put_numbered(b"edit, relative, of clip ", clip, out, at),
         6 => put_bytes(b"tick", out, at),
         7 => put_bytes(b"block", out, at),
         8 => put_bytes(b"reset", out, at),
@@ -170,8 +175,7 @@ pub fn put_call_at(kind: u8, clip: u64, micros: u64, out: &mut [u8], at: usize) 
     ensures { λ r. ⌜ text (now (out .exit)) r ≡ addAll (callAt kind clip micros) (text (now (out .entry)) at) ⌝ }
 {
     let to = put_call(kind, clip, out, at);
-    let to = put_bytes(b" at ", out, to);
-    put_time(micros, out, to)
+    put_timed(b" at ", micros, out, to)
 }
 
 // What became of an edit.

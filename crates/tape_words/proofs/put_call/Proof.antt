@@ -23,7 +23,7 @@ returns-2 c =
     let s2 = c .before .before in
     let s5 = s2 .before .before .before in
     let s7 = s5 .before .before in
-    named _ (sym (ap (λ (k : ℕ). callText k (s7 .args .clip)) (s5 .match .keys2))) (s2 .put-edit .ensures)
+    named _ (sym (ap (λ (k : ℕ). callText k (s7 .args .clip)) (s5 .match .keys2))) (s2 .put-numbered .ensures)
 
 returns-3 : tie.Need-returns-3
 unfolding addAll callText
@@ -31,7 +31,7 @@ returns-3 c =
     let s2 = c .before .before in
     let s5 = s2 .before .before .before in
     let s7 = s5 .before .before in
-    named _ (sym (ap (λ (k : ℕ). callText k (s7 .args .clip)) (s5 .match .keys3))) (s2 .put-edit2 .ensures)
+    named _ (sym (ap (λ (k : ℕ). callText k (s7 .args .clip)) (s5 .match .keys3))) (s2 .put-numbered2 .ensures)
 
 returns-4 : tie.Need-returns-4
 unfolding addAll callText

@@ -1,5 +1,5 @@
 use Rattle.tape_words.specs.Words.{callAt}
-use Rattle.tape_words.specs.Joining.{one, further}
+use Rattle.tape_words.specs.Joining.{further}
 use borrow.Author.Needs.{needs}
 use Rattle.tape_words.proofs.put_call_at.Statement.{statement}
 use Rattle.tape_words.proofs.put_call_at.Tie as tie
@@ -8,12 +8,13 @@ returns : tie.Need-returns
 unfolding callAt
 returns c =
     let s2 = c .before .before in
-    let s6 = s2 .before .before .before .before in
-    let s11 = s6 .before .before .before .before .before in
-    let r = further _ _ _ (s11 .put-call .ensures) (further _ _ _ (one _ _ (s6 .put-bytes .ensures)) (s2 .put-time .ensures)) in
+    let s7 = s2 .before .before .before .before .before in
+    let e1 = s7 .put-call .ensures in
+    let e2 = s2 .put-timed .ensures in
+    let r = further _ _ _ e1 e2 in
     r
 
 pub put-call-at-spec : {M : Type 1} → statement M
 put-call-at-spec =
     tie.close
-    (tie.spec (λ c κs. search needs) (λ c. search needs) (λ c κs. search needs) (λ c κs. search needs) (λ c. search needs) returns)
+    (tie.spec (λ c κs. search needs) (λ c. search needs) (λ c κs. search needs) (λ c. search needs) returns)

@@ -10,11 +10,14 @@ returns c =
     let s2 = c .before .before in
     let s6 = s2 .before .before .before .before in
     let s11 = s6 .before .before .before .before .before in
-    let s15 = s11 .before .before .before .before in
-    let r = further _ _ _ (one _ _ (s15 .put-bytes .ensures)) (further _ _ _ (one _ _ (s11 .put-decimal .ensures)) (further _ _ _ (one _ _ (s6 .put-bytes2 .ensures)) (one _ _ (s2 .refusal-text .ensures)))) in r
+    let e1 = s11 .put-numbered .ensures in
+    let e2 = one _ _ (s6 .put-bytes .ensures) in
+    let e3 = one _ _ (s2 .refusal-text .ensures) in
+    let r = further _ _ _ e1 (further _ _ _ e2 e3) in
+    r
 
 pub put-refusal-spec : {M : Type 1} → statement M
 put-refusal-spec =
     tie.close
-    (tie.spec (λ c. search needs) (λ c κs. search needs) (λ c κs. search needs) (λ c. search needs) (λ c κs. search needs)
-    (λ c κs. search needs) (λ c. search needs) returns)
+    (tie.spec (λ c. search needs) (λ c κs. search needs) (λ c. search needs) (λ c κs. search needs) (λ c κs. search needs)
+    (λ c. search needs) returns)
