@@ -4,13 +4,13 @@ ghost use Rattle.listing.specs.Pieces.{text, add, addAll};
 ghost use Rattle.tape_story.specs.Lines.{moveText, laidText, modeText, createdText, editedText, rateText, outcomeText, quietText, refusedText, beginText, samplesText, heardText, stopText, endText};
 use event::ReplayMode;
 use listing::pieces::put_bytes;
-use listing::pieces::put_decimal;
 use sequencer::Answer;
 use sequencer::Sequencer;
 use tape_words::put_answer;
 use tape_words::put_by_place;
 use tape_words::put_call;
 use tape_words::put_either;
+use tape_words::put_numbered;
 use tape_words::put_peak;
 use tape_words::put_refusal;
 use tape_words::put_sum;
@@ -24,8 +24,7 @@ pub fn put_move(clip: u64, was: u64, place: u64, out: &mut [u8], at: usize) -> u
     if place == was {
         return at;
     }
-    let to = put_bytes(b"; clip ", out, at);
-    let to = put_decimal(clip, out, to);
+    let to = put_numbered(b"; clip ", clip, out, at);
     put_by_place(
         place,
         b" waits again",
@@ -41,8 +40,7 @@ pub fn put_move(clip: u64, was: u64, place: u64, out: &mut [u8], at: usize) -> u
 fn put_laid(clip: u64, place: u64, out: &mut [u8], at: usize) -> usize
     ensures { λ r. ⌜ text (now (out .exit)) r ≡ addAll (laidText clip place) (text (now (out .entry)) at) ⌝ }
 {
-    let to = put_bytes(b": clip ", out, at);
-    let to = put_decimal(clip, out, to);
+    let to = put_numbered(b": clip ", clip, out, at);
     put_either(
         place == 1,
         b" goes straight to sounding",
@@ -66,11 +64,9 @@ fn put_mode(mode: ReplayMode, out: &mut [u8], at: usize) -> usize
 fn put_created(channels: u64, mode: ReplayMode, first: u64, out: &mut [u8], at: usize) -> usize
     ensures { λ r. ⌜ text (now (out .exit)) r ≡ addAll (createdText channels mode first) (text (now (out .entry)) at) ⌝ }
 {
-    let to = put_bytes(b", channels ", out, at);
-    let to = put_decimal(channels, out, to);
+    let to = put_numbered(b", channels ", channels, out, at);
     let to = put_mode(mode, out, to);
-    let to = put_bytes(b", first number ", out, to);
-    put_decimal(first, out, to)
+    put_numbered(b", first number ", first, out, to)
 }
 
 // What became of an edit.
@@ -123,8 +119,7 @@ pub fn put_quiet(calls: u64, since: u64, peak: u32, out: &mut [u8], at: usize) -
         return at;
     }
     let to = put_time(since, out, at);
-    let to = put_bytes(b": ", out, to);
-    let to = put_decimal(calls, out, to);
+    let to = put_numbered(b": ", calls, out, to);
     let to = put_bytes(b" ticks or blocks in which no clip moves, peak ", out, to);
     let to = put_peak(peak, out, to);
     put_bytes(b"\n", out, to)
@@ -158,8 +153,7 @@ fn put_samples(each: u64, peak: u32, heard: bool, out: &mut [u8], at: usize) -> 
     if !heard {
         return at;
     }
-    let to = put_bytes(b"; ", out, at);
-    let to = put_decimal(each, out, to);
+    let to = put_numbered(b"; ", each, out, at);
     let to = put_bytes(b" samples, peak ", out, to);
     put_peak(peak, out, to)
 }
@@ -177,8 +171,7 @@ pub fn put_stop(clock: u64, kind: u8, refusal: u64, out: &mut [u8], at: usize) -
     ensures { λ r. ⌜ text (now (out .exit)) r ≡ addAll (stopText clock kind refusal) (text (now (out .entry)) at) ⌝ }
 {
     let to = put_time(clock, out, at);
-    let to = put_bytes(b": record of kind ", out, to);
-    let to = put_decimal(kind as u64, out, to);
+    let to = put_numbered(b": record of kind ", kind as u64, out, to);
     let to = put_bytes(b": ", out, to);
     let to = put_refusal(refusal, out, to);
     put_bytes(b"; the tape stops\n", out, to)

@@ -9,15 +9,13 @@ unfolding laidText
 returns c =
     let s2 = c .before .before in
     let s8 = s2 .before .before .before .before .before .before in
-    let s12 = s8 .before .before .before .before in
-    let e1 = one _ _ (s12 .put-bytes .ensures) in
-    let e2 = one _ _ (s8 .put-decimal .ensures) in
-    let e3 = one _ _ (s2 .put-either .ensures) in
-    let r = further _ _ _ e1 (further _ _ _ e2 e3) in
+    let e1 = s8 .put-numbered .ensures in
+    let e2 = one _ _ (s2 .put-either .ensures) in
+    let r = further _ _ _ e1 e2 in
     r
 
 pub put-laid-spec : {M : Type 1} → statement M
 put-laid-spec =
     tie.close
-    (tie.spec (λ c. search needs) (λ c κs. search needs) (λ c κs. search needs) (λ c. search needs) (λ c. search needs)
-    (λ c κs. search needs) (λ c. search needs) returns)
+    (tie.spec (λ c. search needs) (λ c κs. search needs) (λ c. search needs) (λ c. search needs) (λ c κs. search needs) (λ c. search needs)
+    returns)

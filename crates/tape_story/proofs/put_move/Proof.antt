@@ -17,16 +17,14 @@ unfolding becomesText moveText
 returns-2 c =
     let s2 = c .before .before in
     let s10 = s2 .before .before .before .before .before .before .before .before in
-    let s14 = s10 .before .before .before .before in
-    let s17 = s14 .before .before .before in
-    let e1 = one _ _ (s14 .put-bytes .ensures) in
-    let e2 = one _ _ (s10 .put-decimal .ensures) in
-    let e3 = one _ _ (s2 .put-by-place .ensures) in
-    let r = further _ _ _ e1 (further _ _ _ e2 e3) in
-    named _ (rw (ne-eqb _ _ (s17 .if1 .left)) refl) r
+    let s13 = s10 .before .before .before in
+    let e1 = s10 .put-numbered .ensures in
+    let e2 = one _ _ (s2 .put-by-place .ensures) in
+    let r = further _ _ _ e1 e2 in
+    named _ (rw (ne-eqb _ _ (s13 .if1 .left)) refl) r
 
 pub put-move-spec : {M : Type 1} → statement M
 put-move-spec =
     tie.close
-    (tie.spec returns (λ c. search needs) (λ c κs. search needs) (λ c κs. search needs) (λ c. search needs) (λ c. search needs)
-    (λ c. search needs) (λ c. search needs) (λ c κs. search needs) (λ c. search needs) returns-2)
+    (tie.spec returns (λ c. search needs) (λ c κs. search needs) (λ c. search needs) (λ c. search needs) (λ c. search needs)
+    (λ c. search needs) (λ c κs. search needs) (λ c. search needs) returns-2)
