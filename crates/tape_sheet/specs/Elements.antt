@@ -34,6 +34,10 @@ unfoldable pub openText : (class : List ℕ) → (x y : ℕ) → List (List ℕ)
 unfolding attribute
 openText class x y = ascii "<text class=\"" ∷ class ∷ ascii "\"" ∷ (attribute (ascii "x") x ++ (attribute (ascii "y") y ++ (ascii ">" ∷ [])))
 
+-- a path of a class from a place on, opened
+unfoldable pub openPath : (class : List ℕ) → (x y : ℕ) → List (List ℕ)
+openPath class x y = ascii "<path class=\"" ∷ class ∷ ascii "\" d=\"M" ∷ decimal x ∷ ascii " " ∷ decimal y ∷ []
+
 -- where a box stands
 unfoldable pub bounds : (x y width height : ℕ) → List (List ℕ)
 unfolding attribute
@@ -60,10 +64,10 @@ axisTime time step = cond (ltb step 1_000_000) (timeText time) (clockText (time 
 
 -- a line of the axis through a group of lanes, with its time above
 unfoldable pub axisMark : (time total step top height : ℕ) → List (List ℕ)
-unfolding openText axisTime
+unfolding openPath openText axisTime
 axisMark time total step top height =
-    ascii "<path class=\"a\" d=\"M" ∷ decimal (xOf time total) ∷ ascii " " ∷ decimal top ∷ ascii "v" ∷ decimal height ∷ ascii "\"/>"
-    ∷ (openText (ascii "t") (xOf time total + 2) (top - 3) ++ (axisTime time step ++ (ascii "</text>\n" ∷ [])))
+    openPath (ascii "a") (xOf time total) top ++ (ascii "v" ∷ decimal height ∷ ascii "\"/>"
+    ∷ (openText (ascii "t") (xOf time total + 2) (top - 3) ++ (axisTime time step ++ (ascii "</text>\n" ∷ []))))
 
 -- a clip's standing from a time to another; where no time passes nothing is drawn
 unfoldable pub segment : (total first clip place from until : ℕ) → List (List ℕ)
@@ -74,12 +78,12 @@ segment total first clip place from until =
 
 -- a lane's line, its number, and a mark where the clip was laid, which says where the push laid it
 unfoldable pub lane : (total first clip place time : ℕ) → List (List ℕ)
-unfolding openText timeText
+unfolding openPath openText timeText
 lane total first clip place time =
-    ascii "<path class=\"l\" d=\"M170 " ∷ decimal (laneOf (clip - first) + 10) ∷ ascii "h1400\"/>" ∷ (openText (ascii "n") 162 (laneOf (clip - first) + 14)
-    ++ (decimal clip ∷ ascii "</text><path class=\"p\" d=\"M" ∷ decimal (xOf time total - 6) ∷ ascii " " ∷ decimal (laneOf (clip - first) + 5)
-    ∷ ascii "l6 5l-6 5z\"><title>clip " ∷ decimal clip ∷ ascii " laid at " ∷ (timeText time ++ (cond (eqb place 1) (ascii ", straight to sounding") (ascii ", waits")
-    ∷ ascii "</title></path>\n" ∷ []))))
+    openPath (ascii "l") 170 (laneOf (clip - first) + 10) ++ (ascii "h1400\"/>" ∷ (openText (ascii "n") 162 (laneOf (clip - first) + 14)
+    ++ (decimal clip ∷ ascii "</text>" ∷ (openPath (ascii "p") (xOf time total - 6) (laneOf (clip - first) + 5)
+    ++ (ascii "l6 5l-6 5z\"><title>clip " ∷ decimal clip ∷ ascii " laid at " ∷ (timeText time ++ (cond (eqb place 1) (ascii ", straight to sounding") (ascii ", waits")
+    ∷ ascii "</title></path>\n" ∷ [])))))))
 
 -- a mark of the strip, in one of eight rows, opened
 unfoldable pub openMark : (class : List ℕ) → (total time row : ℕ) → List (List ℕ)
@@ -106,17 +110,16 @@ edited total row kind clip told time =
 
 -- an edit, on its clip's lane
 unfoldable pub editedLane : (total first kind clip : ℕ) → (told : Answer) → (time : ℕ) → List (List ℕ)
-unfolding editTitle
+unfolding openPath editTitle
 editedLane total first kind clip told time =
-    ascii "<path class=\"d\" d=\"M" ∷ decimal (xOf time total) ∷ ascii " " ∷ decimal (laneOf (clip - first) + 5) ∷ ascii "l-4 -5h8z\"><title>"
-    ∷ (editTitle kind clip told time ++ (ascii "</title></path>\n" ∷ []))
+    openPath (ascii "d") (xOf time total) (laneOf (clip - first) + 5) ++ (ascii "l-4 -5h8z\"><title>" ∷ (editTitle kind clip told time ++ (ascii "</title></path>\n" ∷ [])))
 
 -- a reset or a rate, in the strip and through the lanes
 unfoldable pub called : (total row lanes kind time : ℕ) → List (List ℕ)
-unfolding openMark callText callAt
+unfolding openMark openPath callText callAt
 called total row lanes kind time =
-    openMark (ascii "c") total time row ++ (callText kind 0 ++ (ascii "</text><title>" ∷ (callAt kind 0 time ++ (ascii "</title></g><path class=\"c\" d=\"M"
-    ∷ decimal (xOf time total) ∷ ascii " 176v" ∷ decimal (lanesEnd lanes - 176) ∷ ascii "\"/>\n" ∷ []))))
+    openMark (ascii "c") total time row ++ (callText kind 0 ++ (ascii "</text><title>" ∷ (callAt kind 0 time ++ (ascii "</title></g>"
+    ∷ (openPath (ascii "c") (xOf time total) 176 ++ (ascii "v" ∷ decimal (lanesEnd lanes - 176) ∷ ascii "\"/>\n" ∷ []))))))
 
 -- a bar about the middle, as high as the peak; none for 0
 unfoldable pub bar : (bits column middle : ℕ) → List (List ℕ)
@@ -126,12 +129,12 @@ bar bits column middle =
 
 -- a channel's wave up to its bars: its box, its number and its peak
 unfoldable pub wave : (lanes channel most : ℕ) → List (List ℕ)
-unfolding openBox openText peakText
+unfolding openBox openText openPath peakText
 wave lanes channel most =
     openBox (ascii "b") 170 (waveOf lanes channel) 1_401 81 ++ (ascii "<title>channel " ∷ decimal (channel + 1) ∷ ascii ": peak " ∷ (peakText most
     ++ (ascii "</title></rect>" ∷ (openText (ascii "n") 162 (waveOf lanes channel + 38) ++ (ascii "channel " ∷ decimal (channel + 1) ∷ ascii "</text>"
-    ∷ (openText (ascii "n") 162 (waveOf lanes channel + 52) ++ (ascii "peak " ∷ (peakText most ++ (ascii "</text><path class=\"v\" d=\"M170 "
-    ∷ decimal (waveOf lanes channel + 40) ∷ ascii "h1401" ∷ [])))))))))
+    ∷ (openText (ascii "n") 162 (waveOf lanes channel + 52) ++ (ascii "peak " ∷ (peakText most ++ (ascii "</text>"
+    ∷ (openPath (ascii "v") 170 (waveOf lanes channel + 40) ++ (ascii "h1401" ∷ [])))))))))))
 
 -- a standing of the key
 unfoldable pub swatch : (place x : ℕ) → List (List ℕ)

@@ -3,7 +3,7 @@ ghost use mathlib.Core.Path.{_≡_};
 ghost use Prim.Native.Nat.{_-_, _≤_};
 ghost use Rattle.listing.specs.Pieces.{text, add, addAll};
 ghost use Rattle.tape_words.specs.Words.{byPlace};
-ghost use Rattle.tape_sheet.specs.Elements.{nameText, attribute, openText, bounds, openBox, standing, clockText, axisTime, axisMark, segment, lane, openMark, refused, editTitle, edited, editedLane, called, bar, wave, swatch, page, measures, foot, stopText};
+ghost use Rattle.tape_sheet.specs.Elements.{nameText, attribute, openText, openPath, bounds, openBox, standing, clockText, axisTime, axisMark, segment, lane, openMark, refused, editTitle, edited, editedLane, called, bar, wave, swatch, page, measures, foot, stopText};
 use listing::pieces::put_bytes;
 use listing::pieces::put_decimal;
 use sequencer::Answer;
@@ -12,10 +12,12 @@ use tape_words::put_by_place;
 use tape_words::put_call;
 use tape_words::put_call_at;
 use tape_words::put_either;
+use tape_words::put_numbered;
 use tape_words::put_peak;
 use tape_words::put_refusal;
 use tape_words::put_sum;
 use tape_words::put_time;
+use tape_words::put_timed;
 
 // a - b, and 0 below.
 fn less(a: u64, b: u64) -> u64
@@ -57,8 +59,7 @@ fn put_attribute(name: &[u8], n: u64, out: &mut [u8], at: usize) -> usize
 {
     let to = put_bytes(b" ", out, at);
     let to = put_bytes(name, out, to);
-    let to = put_bytes(b"=\"", out, to);
-    let to = put_decimal(n, out, to);
+    let to = put_numbered(b"=\"", n, out, to);
     put_bytes(b"\"", out, to)
 }
 
@@ -72,6 +73,16 @@ fn put_open_text(class: &[u8], x: u64, y: u64, out: &mut [u8], at: usize) -> usi
     let to = put_attribute(b"x", x, out, to);
     let to = put_attribute(b"y", y, out, to);
     put_bytes(b">", out, to)
+}
+
+// A path of a class from a place on, opened.
+fn put_open_path(class: &[u8], x: u64, y: u64, out: &mut [u8], at: usize) -> usize
+    ensures { λ r. ⌜ text (now (out .exit)) r ≡ addAll (openPath (now (class .entry)) x y) (text (now (out .entry)) at) ⌝ }
+{
+    let to = put_bytes(b"<path class=\"", out, at);
+    let to = put_bytes(class, out, to);
+    let to = put_numbered(b"\" d=\"M", x, out, to);
+    put_numbered(b" ", y, out, to)
 }
 
 // Where a box stands.
@@ -153,12 +164,8 @@ pub fn put_axis_mark(
 {
     let x = chart::x(time, total);
     let above = less(top, 3);
-    let to = put_bytes(b"<path class=\"a\" d=\"M", out, at);
-    let to = put_decimal(x, out, to);
-    let to = put_bytes(b" ", out, to);
-    let to = put_decimal(top, out, to);
-    let to = put_bytes(b"v", out, to);
-    let to = put_decimal(height, out, to);
+    let to = put_open_path(b"a", x, top, out, at);
+    let to = put_numbered(b"v", height, out, to);
     let to = put_bytes(b"\"/>", out, to);
     let to = put_open_text(b"t", x + 2, above, out, to);
     let to = put_axis_time(time, step, out, to);
@@ -186,14 +193,11 @@ pub fn put_segment(
     let y = chart::lane(i);
     let width = chart::breadth(from, until, total);
     let to = put_standing(place, x, y, width, out, at);
-    let to = put_bytes(b"><title>clip ", out, to);
-    let to = put_decimal(clip, out, to);
+    let to = put_numbered(b"><title>clip ", clip, out, to);
     let to = put_bytes(b": ", out, to);
     let to = put_name(place, out, to);
-    let to = put_bytes(b" from ", out, to);
-    let to = put_time(from, out, to);
-    let to = put_bytes(b" to ", out, to);
-    let to = put_time(until, out, to);
+    let to = put_timed(b" from ", from, out, to);
+    let to = put_timed(b" to ", until, out, to);
     put_bytes(b"</title></rect>\n", out, to)
 }
 
@@ -212,19 +216,14 @@ pub fn put_lane(
     let i = less(clip, first);
     let y = chart::lane(i);
     let left = less(chart::x(time, total), 6);
-    let to = put_bytes(b"<path class=\"l\" d=\"M170 ", out, at);
-    let to = put_decimal(y + 10, out, to);
+    let to = put_open_path(b"l", 170, y + 10, out, at);
     let to = put_bytes(b"h1400\"/>", out, to);
     let to = put_open_text(b"n", 162, y + 14, out, to);
     let to = put_decimal(clip, out, to);
-    let to = put_bytes(b"</text><path class=\"p\" d=\"M", out, to);
-    let to = put_decimal(left, out, to);
-    let to = put_bytes(b" ", out, to);
-    let to = put_decimal(y + 5, out, to);
-    let to = put_bytes(b"l6 5l-6 5z\"><title>clip ", out, to);
-    let to = put_decimal(clip, out, to);
-    let to = put_bytes(b" laid at ", out, to);
-    let to = put_time(time, out, to);
+    let to = put_bytes(b"</text>", out, to);
+    let to = put_open_path(b"p", left, y + 5, out, to);
+    let to = put_numbered(b"l6 5l-6 5z\"><title>clip ", clip, out, to);
+    let to = put_timed(b" laid at ", time, out, to);
     let to = put_either(place == 1, b", straight to sounding", b", waits", out, to);
     put_bytes(b"</title></path>\n", out, to)
 }
@@ -306,10 +305,7 @@ pub fn put_edited_lane(
     let i = less(clip, first);
     let x = chart::x(time, total);
     let y = chart::lane(i);
-    let to = put_bytes(b"<path class=\"d\" d=\"M", out, at);
-    let to = put_decimal(x, out, to);
-    let to = put_bytes(b" ", out, to);
-    let to = put_decimal(y + 5, out, to);
+    let to = put_open_path(b"d", x, y + 5, out, at);
     let to = put_bytes(b"l-4 -5h8z\"><title>", out, to);
     let to = put_edit_title(kind, clip, told, time, out, to);
     put_bytes(b"</title></path>\n", out, to)
@@ -333,10 +329,9 @@ pub fn put_called(
     let to = put_call(kind, 0, out, to);
     let to = put_bytes(b"</text><title>", out, to);
     let to = put_call_at(kind, 0, time, out, to);
-    let to = put_bytes(b"</title></g><path class=\"c\" d=\"M", out, to);
-    let to = put_decimal(x, out, to);
-    let to = put_bytes(b" 176v", out, to);
-    let to = put_decimal(height, out, to);
+    let to = put_bytes(b"</title></g>", out, to);
+    let to = put_open_path(b"c", x, 176, out, to);
+    let to = put_numbered(b"v", height, out, to);
     put_bytes(b"\"/>\n", out, to)
 }
 
@@ -349,12 +344,9 @@ pub fn put_bar(bits: u32, column: u32, middle: u64, out: &mut [u8], at: usize) -
     }
     let h = chart::height(bits, 40);
     let top = less(middle, h);
-    let to = put_bytes(b"M", out, at);
-    let to = put_decimal(170 + column as u64, out, to);
-    let to = put_bytes(b" ", out, to);
-    let to = put_decimal(top, out, to);
-    let to = put_bytes(b"v", out, to);
-    put_decimal(h + h + 1, out, to)
+    let to = put_numbered(b"M", 170 + column as u64, out, at);
+    let to = put_numbered(b" ", top, out, to);
+    put_numbered(b"v", h + h + 1, out, to)
 }
 
 // A channel's wave up to its bars: its box, its number and its peak.
@@ -363,20 +355,18 @@ pub fn put_wave(lanes: u64, channel: u32, most: u32, out: &mut [u8], at: usize) 
 {
     let y = chart::wave(lanes, channel as u64);
     let to = put_open_box(b"b", 170, y, 1401, 81, out, at);
-    let to = put_bytes(b"<title>channel ", out, to);
-    let to = put_decimal(channel as u64 + 1, out, to);
+    let to = put_numbered(b"<title>channel ", channel as u64 + 1, out, to);
     let to = put_bytes(b": peak ", out, to);
     let to = put_peak(most, out, to);
     let to = put_bytes(b"</title></rect>", out, to);
     let to = put_open_text(b"n", 162, y + 38, out, to);
-    let to = put_bytes(b"channel ", out, to);
-    let to = put_decimal(channel as u64 + 1, out, to);
+    let to = put_numbered(b"channel ", channel as u64 + 1, out, to);
     let to = put_bytes(b"</text>", out, to);
     let to = put_open_text(b"n", 162, y + 52, out, to);
     let to = put_bytes(b"peak ", out, to);
     let to = put_peak(most, out, to);
-    let to = put_bytes(b"</text><path class=\"v\" d=\"M170 ", out, to);
-    let to = put_decimal(y + 40, out, to);
+    let to = put_bytes(b"</text>", out, to);
+    let to = put_open_path(b"v", 170, y + 40, out, to);
     put_bytes(b"h1401", out, to)
 }
 
@@ -402,8 +392,7 @@ pub fn put_page(lanes: u64, channels: u64, out: &mut [u8], at: usize) -> usize
         at,
     );
     let to = put_attribute(b"height", y + 60, out, to);
-    let to = put_bytes(b" viewBox=\"0 0 1640 ", out, to);
-    let to = put_decimal(y + 60, out, to);
+    let to = put_numbered(b" viewBox=\"0 0 1640 ", y + 60, out, to);
     put_bytes(b"\">\n<title>Proof sheet of ", out, to)
 }
 
@@ -413,10 +402,8 @@ pub fn put_measures(lanes: u64, channels: u64, total: u64, out: &mut [u8], at: u
 {
     let to = put_open_text(b"k", 600, 26, out, at);
     let to = put_decimal(lanes, out, to);
-    let to = put_bytes(b" clips laid, ", out, to);
-    let to = put_decimal(channels, out, to);
-    let to = put_bytes(b" channels, ", out, to);
-    let to = put_time(total, out, to);
+    let to = put_numbered(b" clips laid, ", channels, out, to);
+    let to = put_timed(b" channels, ", total, out, to);
     let to = put_bytes(b" played (", out, to);
     let to = put_axis_time(total, 1000000, out, to);
     put_bytes(b")</text>\n", out, to)

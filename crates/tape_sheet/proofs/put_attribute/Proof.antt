@@ -9,19 +9,17 @@ unfolding attribute
 returns c =
     let s2 = c .before .before in
     let s7 = s2 .before .before .before .before .before in
-    let s11 = s7 .before .before .before .before in
-    let s16 = s11 .before .before .before .before .before in
-    let s20 = s16 .before .before .before .before in
-    let e1 = one _ _ (s20 .put-bytes .ensures) in
-    let e2 = one _ _ (s16 .put-bytes2 .ensures) in
-    let e3 = one _ _ (s11 .put-bytes3 .ensures) in
-    let e4 = one _ _ (s7 .put-decimal .ensures) in
-    let e5 = one _ _ (s2 .put-bytes4 .ensures) in
-    let r = further _ _ _ e1 (further _ _ _ e2 (further _ _ _ e3 (further _ _ _ e4 e5))) in
+    let s12 = s7 .before .before .before .before .before in
+    let s16 = s12 .before .before .before .before in
+    let e1 = one _ _ (s16 .put-bytes .ensures) in
+    let e2 = one _ _ (s12 .put-bytes2 .ensures) in
+    let e3 = s7 .put-numbered .ensures in
+    let e4 = one _ _ (s2 .put-bytes3 .ensures) in
+    let r = further _ _ _ e1 (further _ _ _ e2 (further _ _ _ e3 e4)) in
     r
 
 pub put-attribute-spec : {M : Type 1} → statement M
 put-attribute-spec =
     tie.close
     (tie.spec (λ c. search needs) (λ c κs. search needs) (λ c κs. search needs) (λ c. search needs) (λ c κs. search needs)
-    (λ c κs. search needs) (λ c. search needs) (λ c κs. search needs) (λ c. search needs) returns)
+    (λ c. search needs) (λ c κs. search needs) (λ c. search needs) returns)
