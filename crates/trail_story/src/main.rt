@@ -23,8 +23,11 @@ fn tell_move(clip: u64, was: u64, place: u64) {
     say(&text, n);
 }
 
-// Tells every clip that stands elsewhere than it did, keeps those that are held, and answers how many they are.
-fn follow(s: Sequencer, clips: &mut [u64], places: &mut [u64], count: usize) -> usize {
+// Where a count has changed, tells every clip that stands elsewhere than it did, keeps those that are held, and answers how many they are.
+fn follow(moved: bool, s: Sequencer, clips: &mut [u64], places: &mut [u64], count: usize) -> usize {
+    if !moved {
+        return count;
+    }
     let mut kept = 0;
     let mut i = 0;
     while i < count {
@@ -37,20 +40,6 @@ fn follow(s: Sequencer, clips: &mut [u64], places: &mut [u64], count: usize) -> 
         i = i + 1;
     }
     kept
-}
-
-// The same where a count has changed.
-fn follow_if(
-    moved: bool,
-    s: Sequencer,
-    clips: &mut [u64],
-    places: &mut [u64],
-    count: usize,
-) -> usize {
-    if moved {
-        return follow(s, clips, places, count);
-    }
-    count
 }
 
 // A clip that was laid is held from now on.
@@ -232,7 +221,7 @@ fn tell_record(
     let place = tape_tracks::place_if(laid, s, clip);
     let count = enter_if(laid, clips, places, t.count, clip, place);
     answer_if(both(refusal == 0, !quiet_now), s, kind, told, clip, place);
-    let count = follow_if(!still, s, clips, places, count);
+    let count = follow(!still, s, clips, places, count);
     end_if(!quiet_now, a.each, heard, peak);
     Told {
         sequencer: s,

@@ -6,14 +6,14 @@ use Rattle.trail_story.proofs.follow.Statement.{statement}
 use Rattle.trail_story.proofs.follow.Tie as tie
 
 abbrev Inv-loop : tie.InvT-loop
-Inv-loop s clips₀ places₀ count kept₀ i₀ clips places kept i = (i ≤ count) × (length clips ≡ length clips₀) × (length places ≡ length places₀)
+Inv-loop moved s clips₀ places₀ count kept₀ i₀ clips places kept i = (i ≤ count) × (length clips ≡ length clips₀) × (length places ≡ length places₀)
 
 abbrev μ-loop : tie.MeasureT-loop
-μ-loop s clips₀ places₀ count kept₀ i₀ clips places kept i = count - i
+μ-loop moved s clips₀ places₀ count kept₀ i₀ clips places kept i = count - i
 
 pub follow-spec : {M : Type 1} → statement M
 follow-spec =
     tie.close
-    (tie.spec Inv-loop μ-loop (λ c. search needs) (λ c κs. search needs) (λ c κs. search needs) (λ c κs. search needs) (λ c κs. search needs)
+    (tie.spec Inv-loop μ-loop (λ c. search needs) (λ c. search needs) (λ c κs. search needs) (λ c κs. search needs) (λ c κs. search needs) (λ c κs. search needs)
     (λ c κs. search needs) (λ c κs. search needs) (λ c κs. search needs) (λ c. search needs) (λ c. search needs) (λ c. search needs)
     (λ c. search needs) (λ c. search needs) (λ c. search needs))
