@@ -77,12 +77,10 @@ fn argument(i: usize) -> f64 {
 fn play(bytes: &[u8], pool: &[f32]) -> Sequencer {
     let mut samples = apply::silence();
     let mut s = apply::start();
-    let mut first = true;
-    let mut at: usize = 0;
+    let mut c = Cursor { at: 0, first: true };
     let mut turns = bytes.len();
     while turns > 0 {
         turns = turns - 1;
-        let c = Cursor { at, first };
         let r = c.read(bytes);
         let Read::Record {
             kind: _,
@@ -97,8 +95,7 @@ fn play(bytes: &[u8], pool: &[f32]) -> Sequencer {
         if a.refusal == 1 {
             return s;
         }
-        first = next.first;
-        at = next.at;
+        c = next;
     }
     s
 }

@@ -5,10 +5,10 @@ use Rattle.trail_clips.proofs.play.Statement.{statement}
 use Rattle.trail_clips.proofs.play.Tie as tie
 
 abbrev Inv-loop : tie.InvT-loop
-Inv-loop bytes pool samples₀ s₀ first₀ at₀ turns₀ samples s first at turns = length samples ≡ 512
+Inv-loop bytes pool samples₀ s₀ c₀ turns₀ samples s c turns = length samples ≡ 512
 
 abbrev μ-loop : tie.MeasureT-loop
-μ-loop bytes pool samples₀ s₀ first₀ at₀ turns₀ samples s first at turns = turns
+μ-loop bytes pool samples₀ s₀ c₀ turns₀ samples s c turns = turns
 
 pub play-spec : {M : Type 1} → statement M
 play-spec =
