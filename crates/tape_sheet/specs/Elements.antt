@@ -3,6 +3,7 @@ use Prim.Native.Nat.{ℕ, _+_, _-_, _*_, _/_, _%_}
 use mathlib.Core.Bool.{Bool, cond}
 use mathlib.Core.List.{List, [], _∷_, _++_}
 use lib.Dec.{eqb, ltb}
+use Rattle.sequencer.specs.declared.readers.Counts.{Counts}
 use Rattle.sequencer.specs.declared.Answer.{Answer}
 use Rattle.listing.specs.Ascii.{ascii}
 use Rattle.listing.specs.Text.{decimal}
@@ -156,10 +157,10 @@ measures lanes channels total =
     ∷ (axisTime total 1_000_000 ++ (ascii ")</text>\n" ∷ [])))))
 
 -- the sum of the counts, below the waves
-unfoldable pub foot : (lanes channels pushes waiting sounding finished «let_go» : ℕ) → List (List ℕ)
+unfoldable pub foot : (lanes channels pushes : ℕ) → Counts → List (List ℕ)
 unfolding openText sumText
-foot lanes channels pushes waiting sounding finished «let_go» =
-    openText (ascii "z") 170 (waveOf lanes channels + 20) ++ (sumText pushes waiting sounding finished «let_go» ++ (ascii "</text>\n" ∷ []))
+foot lanes channels pushes counts =
+    openText (ascii "z") 170 (waveOf lanes channels + 20) ++ (sumText pushes counts ++ (ascii "</text>\n" ∷ []))
 
 -- what stops the tape, below the sum; 0 is nothing
 unfoldable pub stopText : (lanes channels stop : ℕ) → List (List ℕ)

@@ -7,6 +7,7 @@ ghost use Rattle.tape_sheet.specs.Elements.{nameText, attribute, openTex
 use listing::pieces::put_bytes;
 use listing::pieces::put_decimal;
 use sequencer::Answer;
+use sequencer::Counts;
 use tape_words::put_answer;
 use tape_words::put_by_place;
 use tape_words::put_call;
@@ -414,18 +415,15 @@ pub fn put_foot(
     lanes: u64,
     channels: u64,
     pushes: u64,
-    waiting: u64,
-    sounding: u64,
-    finished: u64,
-    let_go: u64,
+    counts: Counts,
     out: &mut [u8],
     at: usize,
 ) -> usize
-    ensures { λ r. ⌜ text (now (out .exit)) r ≡ addAll (foot lanes channels pushes waiting sounding finished «let_go») (text (now (out .entry)) at) ⌝ }
+    ensures { λ r. ⌜ text (now (out .exit)) r ≡ addAll (foot lanes channels pushes counts) (text (now (out .entry)) at) ⌝ }
 {
     let y = chart::wave(lanes, channels);
     let to = put_open_text(b"z", 170, y + 20, out, at);
-    let to = put_sum(pushes, waiting, sounding, finished, let_go, out, to);
+    let to = put_sum(pushes, counts, out, to);
     put_bytes(b"</text>\n", out, to)
 }
 

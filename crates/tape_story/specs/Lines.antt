@@ -7,6 +7,7 @@ use lib.Ieee.{Float}
 use Rattle.event.specs.declared.ReplayMode.{ReplayMode}
 use Rattle.event.specs.declared.ReplayMode.the-variants.{All, None}
 use Rattle.sequencer.specs.declared.Sequencer.{Sequencer}
+use Rattle.sequencer.specs.declared.readers.Counts.{Counts}
 use Rattle.sequencer.specs.declared.Answer.{Answer}
 use Rattle.listing.specs.Ascii.{ascii}
 use Rattle.listing.specs.Text.{decimal}
@@ -89,6 +90,6 @@ unfolding timeText refusalText
 stopText clock kind refusal = timeText clock ++ (ascii ": record of kind " ∷ decimal kind ∷ ascii ": " ∷ (refusalText refusal ++ (ascii "; the tape stops\n" ∷ [])))
 
 -- the last line: the sum of the counts
-unfoldable pub endText : (clock pushes waiting sounding finished «let_go» : ℕ) → List (List ℕ)
+unfoldable pub endText : (clock pushes : ℕ) → Counts → List (List ℕ)
 unfolding timeText sumText
-endText clock pushes waiting sounding finished «let_go» = timeText clock ++ (ascii ": the end; " ∷ (sumText pushes waiting sounding finished «let_go» ++ (ascii "\n" ∷ [])))
+endText clock pushes counts = timeText clock ++ (ascii ": the end; " ∷ (sumText pushes counts ++ (ascii "\n" ∷ [])))

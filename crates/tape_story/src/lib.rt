@@ -5,6 +5,7 @@ ghost use Rattle.tape_story.specs.Lines.{moveText, laidText, modeText, c
 use event::ReplayMode;
 use listing::pieces::put_bytes;
 use sequencer::Answer;
+use sequencer::Counts;
 use sequencer::Sequencer;
 use tape_words::put_answer;
 use tape_words::put_by_place;
@@ -178,20 +179,11 @@ pub fn put_stop(clock: u64, kind: u8, refusal: u64, out: &mut [u8], at: usize) -
 }
 
 // The last line: the sum of the counts.
-pub fn put_end(
-    clock: u64,
-    pushes: u64,
-    waiting: u64,
-    sounding: u64,
-    finished: u64,
-    let_go: u64,
-    out: &mut [u8],
-    at: usize,
-) -> usize
-    ensures { λ r. ⌜ text (now (out .exit)) r ≡ addAll (endText clock pushes waiting sounding finished «let_go») (text (now (out .entry)) at) ⌝ }
+pub fn put_end(clock: u64, pushes: u64, counts: Counts, out: &mut [u8], at: usize) -> usize
+    ensures { λ r. ⌜ text (now (out .exit)) r ≡ addAll (endText clock pushes counts) (text (now (out .entry)) at) ⌝ }
 {
     let to = put_time(clock, out, at);
     let to = put_bytes(b": the end; ", out, to);
-    let to = put_sum(pushes, waiting, sounding, finished, let_go, out, to);
+    let to = put_sum(pushes, counts, out, to);
     put_bytes(b"\n", out, to)
 }

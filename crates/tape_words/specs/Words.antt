@@ -3,6 +3,7 @@ use Prim.Native.Nat.{ℕ, _+_, _/_, _%_}
 use mathlib.Core.Bool.{Bool, cond}
 use mathlib.Core.List.{List, [], _∷_, _++_}
 use lib.Dec.{eqb}
+use Rattle.sequencer.specs.declared.readers.Counts.{Counts}
 use Rattle.sequencer.specs.declared.Answer.{Answer}
 use Rattle.sequencer.specs.declared.Answer.the-variants.{Number, Applied, Past, Stored, Done, Rendered, Refused}
 use Rattle.listing.specs.Ascii.{ascii}
@@ -37,10 +38,10 @@ abbrev pub equalsText : Bool → List ℕ
 equalsText good = cond good (ascii " accepted pushes = ") (ascii " accepted pushes, NOT ")
 
 -- accepted pushes = waiting + sounding + finished + let go
-unfoldable pub sumText : (pushes waiting sounding finished letGo : ℕ) → List (List ℕ)
-sumText p w s f g =
-    decimal p ∷ equalsText (eqb p (w + s + f + g)) ∷ decimal w ∷ ascii " waiting + " ∷ decimal s ∷ ascii " sounding + " ∷ decimal f ∷ ascii " finished + " ∷ decimal g
-    ∷ ascii " let go" ∷ []
+unfoldable pub sumText : (pushes : ℕ) → Counts → List (List ℕ)
+sumText p c =
+    decimal p ∷ equalsText (eqb p (c .waiting + c .sounding + c .finished + c .«let_go»)) ∷ decimal (c .waiting) ∷ ascii " waiting + " ∷ decimal (c .sounding)
+    ∷ ascii " sounding + " ∷ decimal (c .finished) ∷ ascii " finished + " ∷ decimal (c .«let_go») ∷ ascii " let go" ∷ []
 
 -- ---- calls, by their record's kind
 

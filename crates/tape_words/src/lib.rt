@@ -10,6 +10,7 @@ ghost use Rattle.tape_words.specs.Words.{byPlace, thousandthsText, timeT
 use listing::pieces::put_bytes;
 use listing::pieces::put_decimal;
 use sequencer::Answer;
+use sequencer::Counts;
 
 // One of two texts: the first where `holds` is true.
 pub fn put_either(holds: bool, first: &[u8], second: &[u8], out: &mut [u8], at: usize) -> usize
@@ -113,18 +114,13 @@ fn is_sum(n: u64, a: u64, b: u64, c: u64, d: u64) -> bool
 }
 
 // The sum: accepted pushes = waiting + sounding + finished + let go.
-pub fn put_sum(
-    pushes: u64,
-    waiting: u64,
-    sounding: u64,
-    finished: u64,
-    let_go: u64,
-    out: &mut [u8],
-    at: usize,
-) -> usize
-    ensures { λ r. ⌜ text (now (out .exit)) r ≡ addAll (sumText pushes waiting sounding finished «let_go») (text (now (out .entry)) at) ⌝ }
+pub fn put_sum(pushes: u64, counts: Counts, out: &mut [u8], at: usize) -> usize
+    ensures { λ r. ⌜ text (now (out .exit)) r ≡ addAll (sumText pushes counts) (text (now (out .entry)) at) ⌝ }
 {
-    let good = is_sum(pushes, waiting, sounding, finished, let_go);
+    let waiting = counts.waiting as u64;
+    let sounding = counts.sounding as u64;
+    let finished = counts.finished as u64;
+    let good = is_sum(pushes, waiting, sounding, finished, counts.let_go);
     let to = put_decimal(pushes, out, at);
     let to = put_either(
         good,
@@ -136,7 +132,7 @@ pub fn put_sum(
     let to = put_decimal(waiting, out, to);
     let to = put_numbered(b" waiting + ", sounding, out, to);
     let to = put_numbered(b" sounding + ", finished, out, to);
-    let to = put_numbered(b" finished + ", let_go, out, to);
+    let to = put_numbered(b" finished + ", counts.let_go, out, to);
     put_bytes(b" let go", out, to)
 }
 

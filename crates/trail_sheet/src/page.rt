@@ -257,17 +257,7 @@ pub(crate) fn open(page: Page, tape: &[u8]) {
 
 fn foot(page: Page, s: Sequencer, pushes: u64) {
     let mut text = io::buffer();
-    let n = tape_sheet::put_foot(
-        page.lanes,
-        page.channels,
-        pushes,
-        s.ready_len as u64,
-        s.active_len as u64,
-        s.past_len as u64,
-        s.let_go,
-        &mut text,
-        0,
-    );
+    let n = tape_sheet::put_foot(page.lanes, page.channels, pushes, s.counts(), &mut text, 0);
     say(&text, n);
 }
 

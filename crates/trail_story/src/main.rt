@@ -134,16 +134,7 @@ fn tell_stop(clock: u64, kind: u8, refusal: u64) {
 
 fn tell_sum(clock: u64, s: Sequencer, pushes: u64) {
     let mut text = io::buffer();
-    let n = tape_story::put_end(
-        clock,
-        pushes,
-        s.ready_len as u64,
-        s.active_len as u64,
-        s.past_len as u64,
-        s.let_go,
-        &mut text,
-        0,
-    );
+    let n = tape_story::put_end(clock, pushes, s.counts(), &mut text, 0);
     say(&text, n);
 }
 
