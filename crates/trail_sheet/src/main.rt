@@ -9,6 +9,7 @@ ghost use lib.ListN.{length};
 use page::LastMark;
 use page::Page;
 use sequencer::Sequencer;
+use tape::reader::Call;
 use tape::reader::Read;
 use tape_pages::both;
 
@@ -30,8 +31,9 @@ fn draw_move(page: Page, clip: u64, was: u64, to: u64, from: u64, now: u64) -> u
     now
 }
 
-// Draws how every clip moved, keeps those that are held, and answers how many they are.
+// Where a count has changed, draws how every clip moved, keeps those that are held, and answers how many they are.
 fn follow(
+    moved: bool,
     page: Page,
     s: Sequencer,
     clips: &mut [u64],
@@ -40,6 +42,9 @@ fn follow(
     count: usize,
     now: u64,
 ) -> usize {
+    if !moved {
+        return count;
+    }
     let mut kept = 0;
     let mut i = 0;
     while i < count {
@@ -60,23 +65,6 @@ fn follow(
         i = i + 1;
     }
     kept
-}
-
-// The same where a count has changed.
-fn follow_if(
-    moved: bool,
-    page: Page,
-    s: Sequencer,
-    clips: &mut [u64],
-    places: &mut [u64],
-    since: &mut [u64],
-    count: usize,
-    now: u64,
-) -> usize {
-    if moved {
-        return follow(page, s, clips, places, since, count, now);
-    }
-    count
 }
 
 // A clip that was laid is drawn, and held from now on.
@@ -154,30 +142,99 @@ fn stop_of(r: Read) -> u64 {
     }
 }
 
+// The tape as far as it is played: the engine, the clips that are held, the accepted pushes, the first clip's number, what was played before the clock's 0, the last mark of the strip, and the last call's refusal.
+struct Played {
+    sequencer: Sequencer,
+    count: usize,
+    pushes: u64,
+    first: u64,
+    base: u64,
+    mark: LastMark,
+    refusal: u64,
+}
+
+fn unplayed() -> Played {
+    Played {
+        sequencer: apply::start(),
+        count: 0,
+        pushes: 0,
+        first: 1,
+        base: 0,
+        mark: LastMark { x: 0, row: 0 },
+        refusal: 0,
+    }
+}
+
 // What is known at the tape's end: the page to draw; in drawing, the page is ended.
 fn end_of(
     page: Page,
-    s: Sequencer,
+    t: Played,
     peaks: &[u32],
     clips: &[u64],
     places: &[u64],
     since: &[u64],
-    count: usize,
-    first: u64,
-    base: u64,
-    pushes: u64,
     stop: u64,
 ) -> Page {
+    let s = t.sequencer;
     if page.draw {
-        finish(page, clips, places, since, count);
-        page::close(page, s, peaks, pushes, stop);
+        finish(page, clips, places, since, t.count);
+        page::close(page, s, peaks, t.pushes, stop);
     }
     Page {
         draw: true,
-        total: chart::later(base, chart::micros(s.time)),
-        lanes: pushes,
-        first,
+        total: chart::later(t.base, chart::micros(s.time)),
+        lanes: t.pushes,
+        first: t.first,
         channels: s.outputs as u64,
+    }
+}
+
+// Plays a record, and draws what it changes.
+fn play_record(
+    page: Page,
+    t: Played,
+    kind: u8,
+    call: Call,
+    pool: &[f32],
+    samples: &mut [f32],
+    peaks: &mut [u32],
+    clips: &mut [u64],
+    places: &mut [u64],
+    since: &mut [u64],
+) -> Played {
+    let before = t.sequencer;
+    let now = chart::later(t.base, chart::micros(before.time));
+    let clip = before.next;
+    let told = tape_tracks::answer_of(before, call);
+    let a = apply::apply(before, call, pool, samples);
+    let s = a.sequencer;
+    let refusal = a.refusal;
+    let base = base_if(kind, now, t.base);
+    let laid = both(refusal == 0, tape::reader::is_push(kind));
+    let place = tape_tracks::place_if(laid, s, clip);
+    let count = enter_if(laid, page, clips, places, since, t.count, clip, place, now);
+    let last = t.mark;
+    let mark = page::mark(
+        page,
+        last,
+        kind,
+        tape_tracks::edited(call),
+        refusal,
+        told,
+        now,
+    );
+    let moved = !tape_tracks::is_same(before.counts(), s.counts());
+    let count = follow(moved, page, s, clips, places, since, count, now);
+    let to = chart::later(base, chart::micros(s.time));
+    hear_if(page, peaks, samples, a.channels, a.each, a.stride, now, to);
+    Played {
+        sequencer: s,
+        count,
+        pushes: tape_tracks::one_more_if(laid, t.pushes),
+        first: first_if(kind, s, t.first),
+        base,
+        mark,
+        refusal,
     }
 }
 
@@ -192,12 +249,7 @@ fn play(
     places: &mut [u64],
     since: &mut [u64],
 ) -> Page {
-    let mut s = apply::start();
-    let mut count: usize = 0;
-    let mut pushes: u64 = 0;
-    let mut number: u64 = 1;
-    let mut base: u64 = 0;
-    let mut m = LastMark { x: 0, row: 0 };
+    let mut t = unplayed();
     let mut first = true;
     let mut at: u64 = 0;
     let mut turns = u64::MAX;
@@ -205,52 +257,22 @@ fn play(
         turns = turns - 1;
         let r = record(fd, at, first);
         let Read::Record { kind, call, next } = r else {
-            return end_of(
-                page,
-                s,
-                peaks,
-                clips,
-                places,
-                since,
-                count,
-                number,
-                base,
-                pushes,
-                stop_of(r),
-            );
+            return end_of(page, t, peaks, clips, places, since, stop_of(r));
         };
-        let now = chart::later(base, chart::micros(s.time));
-        let clip = s.next;
-        let counts = s.counts();
-        let told = tape_tracks::answer_of(s, call);
-        let a = apply::apply(s, call, pool, samples);
-        s = a.sequencer;
-        let refusal = a.refusal;
-        number = first_if(kind, s, number);
-        base = base_if(kind, now, base);
-        let laid = both(refusal == 0, tape::reader::is_push(kind));
-        let place = tape_tracks::place_if(laid, s, clip);
-        count = enter_if(laid, page, clips, places, since, count, clip, place, now);
-        pushes = tape_tracks::one_more_if(laid, pushes);
-        m = page::mark(page, m, kind, tape_tracks::edited(call), refusal, told, now);
-        let moved = !tape_tracks::is_same(counts, s.counts());
-        count = follow_if(moved, page, s, clips, places, since, count, now);
-        let to = chart::later(base, chart::micros(s.time));
-        hear_if(page, peaks, samples, a.channels, a.each, a.stride, now, to);
-        if refusal == 1 {
-            return end_of(
-                page,
-                s,
-                peaks,
-                clips,
-                places,
-                since,
-                count,
-                number,
-                base,
-                pushes,
-                1,
-            );
+        t = play_record(
+            page,
+            t,
+            kind,
+            call,
+            pool,
+            samples,
+            peaks,
+            clips,
+            places,
+            since,
+        );
+        if t.refusal == 1 {
+            return end_of(page, t, peaks, clips, places, since, 1);
         }
         first = next.first;
         at = std::num::wrapping_add_u64(at, next.at as u64);

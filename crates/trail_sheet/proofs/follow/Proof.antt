@@ -6,14 +6,14 @@ use Rattle.trail_sheet.proofs.follow.Statement.{statement}
 use Rattle.trail_sheet.proofs.follow.Tie as tie
 
 abbrev Inv-loop : tie.InvT-loop
-Inv-loop page s clips₀ places₀ since₀ count now kept₀ i₀ clips places since kept i = (i ≤ count) × (length clips ≡ length clips₀) × (length places ≡ length places₀) × (length since ≡ length since₀)
+Inv-loop moved page s clips₀ places₀ since₀ count now kept₀ i₀ clips places since kept i = (i ≤ count) × (length clips ≡ length clips₀) × (length places ≡ length places₀) × (length since ≡ length since₀)
 
 abbrev μ-loop : tie.MeasureT-loop
-μ-loop page s clips₀ places₀ since₀ count now kept₀ i₀ clips places since kept i = count - i
+μ-loop moved page s clips₀ places₀ since₀ count now kept₀ i₀ clips places since kept i = count - i
 
 pub follow-spec : {M : Type 1} → statement M
 follow-spec =
     tie.close
-    (tie.spec Inv-loop μ-loop (λ c. search needs) (λ c κs. search needs) (λ c κs. search needs) (λ c κs. search needs) (λ c κs. search needs)
+    (tie.spec Inv-loop μ-loop (λ c. search needs) (λ c. search needs) (λ c κs. search needs) (λ c κs. search needs) (λ c κs. search needs) (λ c κs. search needs)
     (λ c κs. search needs) (λ c κs. search needs) (λ c κs. search needs) (λ c κs. search needs) (λ c κs. search needs) (λ c. search needs)
     (λ c. search needs) (λ c. search needs) (λ c. search needs) (λ c. search needs) (λ c. search needs) (λ c. search needs))

@@ -7,11 +7,11 @@ use Rattle.trail_sheet.proofs.play.Statement.{statement}
 use Rattle.trail_sheet.proofs.play.Tie as tie
 
 abbrev Inv-loop : tie.InvT-loop
-Inv-loop fd page pool samples₀ peaks₀ clips₀ places₀ since₀ s₀ count₀ pushes₀ number₀ base₀ m₀ first₀ at₀ turns₀ samples peaks clips places since s count pushes number base m first at turns =
+Inv-loop fd page pool samples₀ peaks₀ clips₀ places₀ since₀ t₀ first₀ at₀ turns₀ samples peaks clips places since t first at turns =
     (length samples ≡ length samples₀) × (length peaks ≡ length peaks₀) × (length clips ≡ length clips₀) × (length places ≡ length places₀) × (length since ≡ length since₀)
 
 abbrev μ-loop : tie.MeasureT-loop
-μ-loop fd page pool samples₀ peaks₀ clips₀ places₀ since₀ s₀ count₀ pushes₀ number₀ base₀ m₀ first₀ at₀ turns₀ samples peaks clips places since s count pushes number base m first at turns = turns
+μ-loop fd page pool samples₀ peaks₀ clips₀ places₀ since₀ t₀ first₀ at₀ turns₀ samples peaks clips places since t first at turns = turns
 
 same-length : tie.Need-same-length Inv-loop μ-loop
 same-length c =
@@ -40,98 +40,56 @@ same-length-5 c =
 
 same-length-6 : tie.Need-same-length-6 Inv-loop μ-loop
 same-length-6 c =
-    let d = c .before .before .before .before .before .before .before .before .before .before .before .before .before .before .before .before .before .before .before .before in
-    let e = d .before .before .before .before .before .before .before .before .before .before .before .before .before .before .before .before .before .before .before .before in
-    let v = e .before .before .before .before .before .before .before .before .before .before .before .before .before .before .before .before .before .loop .inv in
-    let g7 = c .before .before .before .before .before .before .before .peaks .given in
-    let g14 = c .before .before .before .before .before .before .before .before .before .before .before .before .before .before .since2 .given in
-    let g16 = c .before .before .before .before .before .before .before .before .before .before .before .before .before .before .before .before .places2 .given in
-    let g18 = c .before .before .before .before .before .before .before .before .before .before .before .before .before .before .before .before .before .before .clips2 .given in
-    let g29 = d .before .before .before .before .before .before .before .before .before .since .given in
-    let g31 = d .before .before .before .before .before .before .before .before .before .before .before .places .given in
-    let g33 = d .before .before .before .before .before .before .before .before .before .before .before .before .before .clips .given in
-    let g45 = e .before .before .before .before .before .samples .given in
+    let s16 = c .before .before .before .before .before .before .before .before .before .before .before .before .before .before .before .before in
+    let v = s16 .before .before .before .before .before .before .before .before .before .before .before .before .loop .inv in
+    let g = s16 .samples .given in
     search needs
 
 same-length-7 : tie.Need-same-length-7 Inv-loop μ-loop
 same-length-7 c =
-    let d = c .before .before .before .before .before .before .before .before .before .before .before .before .before .before .before .before .before .before .before .before in
-    let e = d .before .before .before .before .before .before .before .before .before .before .before .before .before .before .before .before .before .before .before .before in
-    let v = e .before .before .before .before .before .before .before .before .before .before .before .before .before .before .before .before .before .loop .inv in
-    let g7 = c .before .before .before .before .before .before .before .peaks .given in
-    let g14 = c .before .before .before .before .before .before .before .before .before .before .before .before .before .before .since2 .given in
-    let g16 = c .before .before .before .before .before .before .before .before .before .before .before .before .before .before .before .before .places2 .given in
-    let g18 = c .before .before .before .before .before .before .before .before .before .before .before .before .before .before .before .before .before .before .clips2 .given in
-    let g29 = d .before .before .before .before .before .before .before .before .before .since .given in
-    let g31 = d .before .before .before .before .before .before .before .before .before .before .before .places .given in
-    let g33 = d .before .before .before .before .before .before .before .before .before .before .before .before .before .clips .given in
-    let g45 = e .before .before .before .before .before .samples .given in
+    let s14 = c .before .before .before .before .before .before .before .before .before .before .before .before .before .before in
+    let v = s14 .before .before .before .before .before .before .before .before .before .before .before .before .before .before .loop .inv in
+    let g = s14 .peaks .given in
     search needs
 
 same-length-8 : tie.Need-same-length-8 Inv-loop μ-loop
 same-length-8 c =
-    let d = c .before .before .before .before .before .before .before .before .before .before .before .before .before .before .before .before .before .before .before .before in
-    let e = d .before .before .before .before .before .before .before .before .before .before .before .before .before .before .before .before .before .before .before .before in
-    let v = e .before .before .before .before .before .before .before .before .before .before .before .before .before .before .before .before .before .loop .inv in
-    let g7 = c .before .before .before .before .before .before .before .peaks .given in
-    let g14 = c .before .before .before .before .before .before .before .before .before .before .before .before .before .before .since2 .given in
-    let g16 = c .before .before .before .before .before .before .before .before .before .before .before .before .before .before .before .before .places2 .given in
-    let g18 = c .before .before .before .before .before .before .before .before .before .before .before .before .before .before .before .before .before .before .clips2 .given in
-    let g29 = d .before .before .before .before .before .before .before .before .before .since .given in
-    let g31 = d .before .before .before .before .before .before .before .before .before .before .before .places .given in
-    let g33 = d .before .before .before .before .before .before .before .before .before .before .before .before .before .clips .given in
-    let g45 = e .before .before .before .before .before .samples .given in
+    let s12 = c .before .before .before .before .before .before .before .before .before .before .before .before in
+    let v = s12 .before .before .before .before .before .before .before .before .before .before .before .before .before .before .before .before .loop .inv in
+    let g = s12 .clips .given in
     search needs
 
 same-length-9 : tie.Need-same-length-9 Inv-loop μ-loop
 same-length-9 c =
-    let d = c .before .before .before .before .before .before .before .before .before .before .before .before .before .before .before .before .before .before .before .before in
-    let e = d .before .before .before .before .before .before .before .before .before .before .before .before .before .before .before .before .before .before .before .before in
-    let v = e .before .before .before .before .before .before .before .before .before .before .before .before .before .before .before .before .before .loop .inv in
-    let g7 = c .before .before .before .before .before .before .before .peaks .given in
-    let g14 = c .before .before .before .before .before .before .before .before .before .before .before .before .before .before .since2 .given in
-    let g16 = c .before .before .before .before .before .before .before .before .before .before .before .before .before .before .before .before .places2 .given in
-    let g18 = c .before .before .before .before .before .before .before .before .before .before .before .before .before .before .before .before .before .before .clips2 .given in
-    let g29 = d .before .before .before .before .before .before .before .before .before .since .given in
-    let g31 = d .before .before .before .before .before .before .before .before .before .before .before .places .given in
-    let g33 = d .before .before .before .before .before .before .before .before .before .before .before .before .before .clips .given in
-    let g45 = e .before .before .before .before .before .samples .given in
+    let s10 = c .before .before .before .before .before .before .before .before .before .before in
+    let v = s10 .before .before .before .before .before .before .before .before .before .before .before .before .before .before .before .before .before .before .loop .inv in
+    let g = s10 .places .given in
     search needs
 
 same-length-10 : tie.Need-same-length-10 Inv-loop μ-loop
 same-length-10 c =
-    let d = c .before .before .before .before .before .before .before .before .before .before .before .before .before .before .before .before .before .before .before .before in
-    let e = d .before .before .before .before .before .before .before .before .before .before .before .before .before .before .before .before .before .before .before .before in
-    let v = e .before .before .before .before .before .before .before .before .before .before .before .before .before .before .before .before .before .loop .inv in
-    let g7 = c .before .before .before .before .before .before .before .peaks .given in
-    let g14 = c .before .before .before .before .before .before .before .before .before .before .before .before .before .before .since2 .given in
-    let g16 = c .before .before .before .before .before .before .before .before .before .before .before .before .before .before .before .before .places2 .given in
-    let g18 = c .before .before .before .before .before .before .before .before .before .before .before .before .before .before .before .before .before .before .clips2 .given in
-    let g29 = d .before .before .before .before .before .before .before .before .before .since .given in
-    let g31 = d .before .before .before .before .before .before .before .before .before .before .before .places .given in
-    let g33 = d .before .before .before .before .before .before .before .before .before .before .before .before .before .clips .given in
-    let g45 = e .before .before .before .before .before .samples .given in
+    let s8 = c .before .before .before .before .before .before .before .before in
+    let v = s8 .before .before .before .before .before .before .before .before .before .before .before .before .before .before .before .before .before .before .before .before .loop .inv in
+    let g = s8 .since .given in
     search needs
 
 loop-less : tie.Need-loop-less Inv-loop μ-loop
 loop-less c =
-    let d = c .before .before .before .before .before .before .before .before .before .before .before .before .before .before .before .before .before .before .before .before in
-    let e = d .before .before .before .before .before .before .before .before .before .before .before .before .before .before .before .before .before .before .before .before in
-    omega (arith, e .before .before .before .before .before .before .before .before .before .before .before .before .loop-test .taken)
+    omega (arith, c .before .before .before .before .before .before .before .before .before .before .before .before .before .before .before .before .before .before .before .before .before .before .before .loop-test .taken)
 
 loop-again : tie.Need-loop-again Inv-loop μ-loop
 loop-again c =
-    let d = c .before .before .before .before .before .before .before .before .before .before .before .before .before .before .before .before .before .before .before .before in
-    let e = d .before .before .before .before .before .before .before .before .before .before .before .before .before .before .before .before .before .before .before .before in
-    let v = e .before .before .before .before .before .before .before .before .before .before .before .before .before .loop .inv in
-    let g3 = c .before .before .before .peaks .given in
-    let g10 = c .before .before .before .before .before .before .before .before .before .before .since2 .given in
-    let g12 = c .before .before .before .before .before .before .before .before .before .before .before .before .places2 .given in
-    let g14 = c .before .before .before .before .before .before .before .before .before .before .before .before .before .before .clips2 .given in
-    let g25 = d .before .before .before .before .before .since .given in
-    let g27 = d .before .before .before .before .before .before .before .places .given in
-    let g29 = d .before .before .before .before .before .before .before .before .before .clips .given in
-    let g41 = e .before .samples .given in
+    let s4 = c .before .before .before .before in
+    let s6 = s4 .before .before in
+    let s8 = s6 .before .before in
+    let s10 = s8 .before .before in
+    let s12 = s10 .before .before in
+    let v = s12 .before .before .before .before .before .before .before .before .before .before .before .before .loop .inv in
+    let g1 = s4 .since .given in
+    let g2 = s6 .places .given in
+    let g3 = s8 .clips .given in
+    let g4 = s10 .peaks .given in
+    let g5 = s12 .samples .given in
     search needs
 
 same-length-11 : tie.Need-same-length-11 Inv-loop μ-loop
@@ -164,9 +122,6 @@ play-spec =
     tie.close
     (tie.spec Inv-loop μ-loop (λ c κs. search needs) (λ c. search needs) (λ c. search needs) (λ c κs. search needs) (λ c. search needs)
     (λ c κs. search needs) (λ c κs. search needs) same-length same-length-2 same-length-3 same-length-4 same-length-5 (λ c. search needs)
-    (λ c κs. search needs) (λ c κs. search needs) (λ c κs. search needs) (λ c κs. search needs) (λ c κs. search needs) (λ c κs. search needs)
-    (λ c κs. search needs) (λ c κs. search needs) (λ c κs. search needs) (λ c κs. search needs) (λ c κs. search needs) (λ c κs. search needs)
-    (λ c κs. search needs) (λ c κs. search needs) (λ c κs. search needs) (λ c κs. search needs) (λ c κs. search needs) (λ c κs. search needs)
-    (λ c κs. search needs) (λ c κs. search needs) (λ c κs. search needs) same-length-6 same-length-7 same-length-8 same-length-9 same-length-10
-    (λ c. search needs) (λ c κs. search needs) loop-less loop-again same-length-11 same-length-12 same-length-13 same-length-14 same-length-15
+    (λ c κs. search needs) (λ c κs. search needs) same-length-6 same-length-7 same-length-8 same-length-9 same-length-10 (λ c. search needs)
+    (λ c κs. search needs) loop-less loop-again same-length-11 same-length-12 same-length-13 same-length-14 same-length-15
     (λ c. search needs))
