@@ -1,15 +1,21 @@
-// The pool that clips read: document 01's, or from a file, a WAV of one channel of 32-bit floats, or such samples and nothing else. For programs: of what a call of C's reads no contract can speak, so
-// `load` promises no more than a bound. Where the samples stand, how many there are and what ends them is decided by the functions above it, by the definitions of specs/Pools.antt.
+// The pool that clips read: document 01's, or from a file, a WAV of one channel of 32-bit floats, or such samples and nothing else. For programs: which bytes a call of C's reads no contract can say, so
+// `load` promises how many samples there are and where they stand in the pool (`Loads`). Where they stand in the file and what ends them is decided by the functions above it, by the definitions of
+// specs/Pools.antt.
 ghost use mathlib.Core.Path.{_≡_};
-ghost use Prim.Native.Nat.{_≤_};
-ghost use lib.ListN.{length, drop};
+ghost use Prim.Native.Nat.{_-_, _≤_};
+ghost use lib.ListN.{length, take, drop, replicate};
+ghost use lib.Seq.{sets};
 ghost use mathlib.Core.List.{_++_};
+ghost use Rattle.floats.specs.Arithmetic.{zeroᶠ};
+ghost use Rattle.recording.specs.Samples.{samplesFrom};
+ghost use Rattle.pool_file.specs.Loading.{endedBy, answerOf, notLoaded, Fills, Loads};
 ghost use Rattle.pool_file.specs.Pools.{isOption, optionLine, monoFloat, knownBy, placeOf, nowhere as noPlace, trailLoaded, withTrailPool};
 use tape::fields;
 
 // Room for the longest pool.
 pub fn room() -> [f32; 262144]
-    ensures { λ r. ⌜ 262144 ≡ length r ⌝ }
+    ensures length { λ r. ⌜ 262144 ≡ length r ⌝ }
+    ensures zeros { λ r. ⌜ r ≡ replicate 262144 zeroᶠ ⌝ }
 {
     [0.0; 262144]
 }
@@ -121,7 +127,7 @@ pub struct Loaded {
 }
 
 fn refused(text: &[u8]) -> Loaded
-    ensures { λ r. ⌜ r .count ≡ 0 ⌝ }
+    ensures { λ r. ⌜ r ≡ notLoaded ⌝ }
 {
     io::write_all(2, b"POOL: ");
     io::write_all(2, text);
@@ -139,7 +145,9 @@ struct Filling {
     ended: u64,
 }
 
-fn ends(s: Filling, ended: u64) -> Filling {
+fn ends(s: Filling, ended: u64) -> Filling
+    ensures { λ r. ⌜ r ≡ endedBy s ended ⌝ }
+{
     Filling {
         have: s.have,
         left: s.left,
@@ -149,7 +157,10 @@ fn ends(s: Filling, ended: u64) -> Filling {
 }
 
 // The samples of the first n bytes; how many.
-fn put(buf: &[u8], n: usize, pool: &mut [f32], count: usize) -> usize {
+fn put(buf: &[u8], n: usize, pool: &mut [f32], count: usize) -> usize
+    ensures bound { λ r. ⌜ r ≤ length (now (pool .entry)) - count ⌝ }
+    ensures lent { λ r. ⌜ now (pool .exit) ≡ sets (now (pool .entry)) count (samplesFrom (take n (now (buf .entry))) r 0) ⌝ }
+{
     if buf.len() < n {
         return 0;
     }
@@ -157,7 +168,9 @@ fn put(buf: &[u8], n: usize, pool: &mut [f32], count: usize) -> usize {
 }
 
 // Reads more behind the bytes at hand.
-fn more(fd: i32, buf: &mut [u8], s: Filling) -> Filling {
+fn more(fd: i32, buf: &mut [u8], s: Filling) -> Filling
+    ensures { λ r. ⌜ r .count ≡ s .count ⌝ }
+{
     let rest = s.have;
     let came = tape_input::read_on(fd, buf, rest);
     if came.failed {
@@ -185,7 +198,10 @@ fn more(fd: i32, buf: &mut [u8], s: Filling) -> Filling {
 }
 
 // Moves on by the bytes at hand, and reads more.
-fn step(fd: i32, buf: &mut [u8], pool: &mut [f32], s: Filling) -> Filling {
+fn step(fd: i32, buf: &mut [u8], pool: &mut [f32], s: Filling) -> Filling
+    requires { ⌜ s .count ≤ length (now pool) ⌝ }
+    ensures { λ r. ⌜ Fills (now (pool .entry)) (s .count) (now (pool .exit)) r ⌝ }
+{
     let n = fields::least(s.have, s.left);
     let count = s.count;
     let k = put(buf, n, pool, count);
@@ -214,7 +230,10 @@ fn step(fd: i32, buf: &mut [u8], pool: &mut [f32], s: Filling) -> Filling {
 }
 
 // All the samples of the file, whose bytes at hand are samples from the first on.
-fn fill(fd: i32, buf: &mut [u8], pool: &mut [f32], from: Filling) -> Filling {
+fn fill(fd: i32, buf: &mut [u8], pool: &mut [f32], from: Filling) -> Filling
+    requires { ⌜ from .count ≤ length (now pool) ⌝ }
+    ensures { λ r. ⌜ Fills (now (pool .entry)) (from .count) (now (pool .exit)) r ⌝ }
+{
     let mut s = from;
     let mut turns = u64::MAX;
     while turns > 0 {
@@ -229,7 +248,7 @@ fn fill(fd: i32, buf: &mut [u8], pool: &mut [f32], from: Filling) -> Filling {
 
 // What a pool with so much room came to.
 fn answer(s: Filling, room: usize) -> Loaded
-    ensures { λ r. ⌜ r .count ≤ room ⌝ }
+    ensures { λ r. ⌜ r ≡ answerOf s room ⌝ }
 {
     if s.ended == 2 {
         return refused(b"cannot be read\n");
@@ -248,7 +267,8 @@ fn answer(s: Filling, room: usize) -> Loaded
 
 // Puts the samples of an open file into `pool`.
 fn load_from(fd: i32, pool: &mut [f32]) -> Loaded
-    ensures { λ r. ⌜ r .count ≤ length (now (pool .entry)) ⌝ }
+    ensures bound { λ r. ⌜ r .count ≤ length (now (pool .entry)) ⌝ }
+    ensures lent { λ r. ⌜ Loads (now (pool .entry)) (now (pool .exit)) r ⌝ }
 {
     let mut buf = io::large_buffer();
     let n = io::read_full(fd, &mut buf);
@@ -271,7 +291,8 @@ fn load_from(fd: i32, pool: &mut [f32]) -> Loaded
 
 // Puts the samples of the file that a path names into `pool`. What is wrong is said on standard error.
 pub fn load(path: &[u8], pool: &mut [f32]) -> Loaded
-    ensures { λ r. ⌜ r .count ≤ length (now (pool .entry)) ⌝ }
+    ensures bound { λ r. ⌜ r .count ≤ length (now (pool .entry)) ⌝ }
+    ensures lent { λ r. ⌜ Loads (now (pool .entry)) (now (pool .exit)) r ⌝ }
 {
     let fd = os::open_read(path);
     if fd < 0 {

@@ -1,10 +1,11 @@
-// A tape read in pieces through a buffer: for programs that read a tape of any length. `read_on` makes a call of C's, of which no contract can say what came.
+// A tape read in pieces through a buffer: for programs that read a tape of any length. Which bytes C's read gives no contract can say; what else reading leaves, specs/Reading.antt does.
 ghost use mathlib.Core.Path.{_≡_};
 ghost use mathlib.Core.Bool.{cond, false};
 ghost use mathlib.Core.List.{_++_};
 ghost use Prim.Native.Nat.{_+_, _-_, _≤_, min};
 ghost use lib.Dec.{ltb, leb};
 ghost use lib.ListN.{length, take, drop};
+ghost use Rattle.tape_input.specs.Reading.{ReadOn, NextTape};
 
 // Moves the bytes from `at` up to `have` to the front, and answers how many they are.
 pub fn shift(buf: &mut [u8], at: usize, have: usize) -> usize
@@ -32,7 +33,8 @@ pub struct Came {
 
 // Reads once, behind the first `have` bytes.
 pub fn read_on(fd: i32, buf: &mut [u8], have: usize) -> Came
-    ensures { λ r. ⌜ (have ≤ length (now (buf .entry)) → have + r .count ≤ length (now (buf .entry))) ⌝ }
+    ensures bound { λ r. ⌜ (have ≤ length (now (buf .entry)) → have + r .count ≤ length (now (buf .entry))) ⌝ }
+    ensures read { λ r. ⌜ ReadOn (now (buf .entry)) have (now (buf .exit)) r ⌝ }
 {
     if buf.len() < have {
         return Came {
@@ -56,13 +58,16 @@ pub fn enough(at: usize, have: usize) -> bool
 }
 
 // A tape's length from its two bytes.
-fn length_of(low: u8, high: u8) -> usize {
+fn length_of(low: u8, high: u8) -> usize
+    ensures { λ r. ⌜ r ≤ 65_535 ⌝ }
+{
     low as usize + 256 * (high as usize)
 }
 
 // Reads from standard input, where a tape stands behind its length in two bytes, the next tape; answers how many bytes it has, or 65,536 at the end of the input.
 pub fn next_tape(buf: &mut [u8]) -> usize
-    ensures { λ r. ⌜ ((r ≡ 65536 → ⊥) → r ≤ length (now (buf .entry))) ⌝ }
+    ensures bound { λ r. ⌜ ((r ≡ 65536 → ⊥) → r ≤ length (now (buf .entry))) ⌝ }
+    ensures read { λ r. ⌜ NextTape (now (buf .entry)) (now (buf .exit)) r ⌝ }
 {
     let mut head = [0u8; 2];
     if io::read_full(0, &mut head) < 2 {

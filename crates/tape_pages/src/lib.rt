@@ -1,10 +1,12 @@
-// What the programs share that make a page of a tape (trail_sheet, trail_story): their arguments, the pool, and the tape's records by their places in the file. For programs: of what a call of
-// C's reads or writes no contract can speak. What is decided of it is said by the definitions of specs/Arguments.antt, specs/Records.antt.
+// What the programs share that make a page of a tape (trail_sheet, trail_story): their arguments, the pool, and the tape's records by their places in the file. For programs: which bytes a
+// call of C's reads no contract can say. What is decided of them, and what is left, is said by the definitions of specs/.
 ghost use mathlib.Core.Path.{_≡_};
 ghost use mathlib.Core.Bool.{_&&_};
 ghost use Prim.Native.Nat.{_≤_, max};
 ghost use lib.ListN.{length};
+ghost use Rattle.pool_file.specs.Loading.{Loads};
 ghost use Rattle.tape_pages.specs.Arguments.{placesOf};
+ghost use Rattle.tape_pages.specs.Opening.{notOpened, Opens};
 ghost use Rattle.tape_pages.specs.Records.{Stands};
 use pool_file::Loaded;
 use tape::reader::Cursor;
@@ -59,7 +61,8 @@ fn usage(who: &[u8], what: &[u8]) {
 
 // The pool of the file that an argument names, or document 01's.
 fn load(argument: usize, pool: &mut [f32]) -> Loaded
-    ensures { λ r. ⌜ r .count ≤ length (now (pool .entry)) ⌝ }
+    ensures bound { λ r. ⌜ r .count ≤ length (now (pool .entry)) ⌝ }
+    ensures lent { λ r. ⌜ Loads (now (pool .entry)) (now (pool .exit)) r ⌝ }
 {
     if argument == 0 {
         return pool_file::put_trail_pool(pool);
@@ -78,8 +81,7 @@ pub struct Opened {
 }
 
 fn not_opened() -> Opened
-    ensures { λ r. ⌜ r .name ≡ 0 ⌝ }
-    ensures { λ r. ⌜ r .count ≡ 0 ⌝ }
+    ensures { λ r. ⌜ r ≡ notOpened ⌝ }
 {
     Opened {
         fd: -1,
@@ -91,8 +93,9 @@ fn not_opened() -> Opened
 
 // Opens the tape that the program's arguments name, with its name in `name` and the pool in `pool`. What is wrong is said on standard error.
 pub fn open(who: &[u8], what: &[u8], name: &mut [u8], pool: &mut [f32]) -> Opened
-    ensures { λ r. ⌜ r .name ≤ length (now (name .entry)) ⌝ }
-    ensures { λ r. ⌜ r .count ≤ length (now (pool .entry)) ⌝ }
+    ensures name { λ r. ⌜ r .name ≤ length (now (name .entry)) ⌝ }
+    ensures count { λ r. ⌜ r .count ≤ length (now (pool .entry)) ⌝ }
+    ensures lent { λ r. ⌜ Opens (now (pool .entry)) (now (pool .exit)) r ⌝ }
 {
     let places = named();
     if places.tape == 0 {

@@ -1,7 +1,7 @@
 // What the pages about a tape follow: where each clip stands that is held, in rows of numbers, and what a record says of one.
 ghost use mathlib.Core.Path.{_≡_};
 ghost use mathlib.Core.Bool.{cond};
-ghost use lib.ListN.{length, getD, set as setAt};
+ghost use lib.ListN.{length, getD, replicate, set as setAt};
 ghost use Rattle.tape_tracks.specs.Tracks.{standsAt, enteredAt, sameCounts, nextPlace, oneMore, editedNumber, editAnswerOf};
 use sequencer::Answer;
 use sequencer::Counts;
@@ -11,7 +11,8 @@ use tape::reader::Call;
 
 // A row for the clips that are held.
 pub fn row() -> [u64; 256]
-    ensures { λ r. ⌜ length r ≡ 256 ⌝ }
+    ensures length { λ r. ⌜ length r ≡ 256 ⌝ }
+    ensures zeros { λ r. ⌜ r ≡ replicate 256 0 ⌝ }
 {
     [0; 256]
 }

@@ -23,7 +23,7 @@ slice-aggregate-read-on : tie.Need-slice-aggregate-read-on Inv-loop μ-loop
 slice-aggregate-read-on c = search needs
 
 add-have : tie.Need-add-have Inv-loop μ-loop
-add-have c = let l = slice-aggregate-read-on (c .before .before .before .before .before) in let k = c .before .before .before .before .before .before .before .shift .ensures .0 in let i = c .before .before .before .before .before .before .before .before .before .before .before .before .loop .inv in let h = c .before .before .before .before .read-on .ensures (omega arith) in search needs
+add-have c = let l = slice-aggregate-read-on (c .before .before .before .before .before) in let k = c .before .before .before .before .before .before .before .shift .ensures .0 in let i = c .before .before .before .before .before .before .before .before .before .before .before .before .loop .inv in let h = c .before .before .before .before .read-on .ensures .0 (omega arith) in search needs
 
 loop-less-2 : tie.Need-loop-less-2 Inv-loop μ-loop
 loop-less-2 c = omega (arith, c .before .before .before .before .before .before .before .before .before .before .before .loop-test .taken)
@@ -33,7 +33,7 @@ loop-again-2 c =
     let l = slice-aggregate-read-on (c .before .before .before .before .before) in
     let k = c .before .before .before .before .before .before .before .shift .ensures .0 in
     let i = c .before .before .before .before .before .before .before .before .before .before .before .before .loop .inv in
-    let h = c .before .before .before .before .read-on .ensures (omega arith) in
+    let h = c .before .before .before .before .read-on .ensures .0 (omega arith) in
     (search needs, omega arith)
 
 pub read-tape-spec : {M : Type 1} → statement M

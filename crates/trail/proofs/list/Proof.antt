@@ -33,7 +33,7 @@ add-have : tie.Need-add-have Inv-loop μ-loop
 add-have c =
     let i = c .before .before .before .before .before .before .before .before .before .before .before .before .before .before .before .before .before .before .before .before .before .loop .inv in
     let k = c .before .before .before .before .before .before .before .shift .ensures .0 in
-    let h = c .before .before .before .before .read-on .ensures (search needs) in
+    let h = c .before .before .before .before .read-on .ensures .0 (search needs) in
     search needs
 
 loop-less-2 : tie.Need-loop-less-2 Inv-loop μ-loop
@@ -44,7 +44,7 @@ loop-again-2 c =
     let i = c .before .before .before .before .before .before .before .before .before .before .before .before .before .before .before .before .before .before .before .before .before .loop .inv in
     let l = slice-aggregate-read-on (c .before .before .before .before .before) in
     let k = c .before .before .before .before .before .before .before .shift .ensures .0 in
-    let h = c .before .before .before .before .read-on .ensures (omega arith) in
+    let h = c .before .before .before .before .read-on .ensures .0 (omega arith) in
     (search needs, omega arith, search needs)
 
 pub list-spec : {M : Type 1} → statement M

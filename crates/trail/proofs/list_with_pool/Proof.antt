@@ -6,7 +6,7 @@ use Rattle.trail.proofs.list_with_pool.Statement.{statement}
 use Rattle.trail.proofs.list_with_pool.Tie as tie
 
 slice-aggregate-list : tie.Need-slice-aggregate-list
-slice-aggregate-list c = sym (length-take-le _ _ (omega (arith, c .before .before .before .before .before .before .before .room .ensures, c .before .if2 .taken)))
+slice-aggregate-list c = sym (length-take-le _ _ (omega (arith, c .before .before .before .before .before .before .before .room .ensures .0, c .before .if2 .taken)))
 
 pub list-with-pool-spec : {M : Type 1} → statement M
 list-with-pool-spec =
