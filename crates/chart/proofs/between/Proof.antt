@@ -17,7 +17,13 @@ returns-3 : tie.Need-returns-3
 returns-3 c = let a = c .before .before .before .before .before .args in c .before .before .before .before .least .ensures ∙ between-many (a .from) (a .to) (a .k) (a .n) (c .if3 .taken)
 
 mul-result : tie.Need-mul-result
-mul-result c = let e = c .before .before .before .before .least2 .ensures in let f = c .least3 .ensures in let h = c .before .if3 .left in let p = product (c .before .before .before .before .least2 .result - c .before .before .before .before .before .least .result) (c .least3 .result) (omega arith) (omega arith) in omega arith
+mul-result c =
+    let b = c .before .before .before .before in
+    let e = b .least2 .ensures in
+    let f = c .least3 .ensures in
+    let h = c .before .if3 .left in
+    let p = product (b .least2 .result - b .before .least .result) (c .least3 .result) (omega arith) (omega arith) in
+    omega arith
 
 add-result : tie.Need-add-result
 add-result c =
@@ -34,7 +40,10 @@ add-result c =
     omega arith
 
 returns-4 : tie.Need-returns-4
-returns-4 c = let a = c .before .before .before .before .before .before .args in rw (c .before .before .before .before .before .least .ensures, c .before .before .before .before .least2 .ensures, c .least3 .ensures) (between-at (a .from) (a .to) (a .k) (a .n) (c .before .before .if2 .left) (c .before .if3 .left))
+returns-4 c =
+    let b = c .before .before .before .before in
+    let a = b .before .before .args in
+    rw (b .before .least .ensures, b .least2 .ensures, c .least3 .ensures) (between-at (a .from) (a .to) (a .k) (a .n) (c .before .before .if2 .left) (c .before .if3 .left))
 
 pub between-spec : {M : Type 1} → statement M
 between-spec =

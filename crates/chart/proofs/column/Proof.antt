@@ -9,7 +9,12 @@ returns : tie.Need-returns
 returns c = (column-none (c .before .before .args .time) (c .before .before .args .total) (sym (c .before .least .ensures) ∙ c .if1 .taken), omega arith)
 
 returns-2 : tie.Need-returns-2
-returns-2 c = (rw (c .least2 .ensures, c .before .before .least .ensures) (column-at (c .before .before .before .args .time) (c .before .before .before .args .total) (λ e. c .before .if1 .left (c .before .before .least .ensures ∙ e))), rw (c .least2 .ensures) (column-within (c .before .before .before .args .time) (c .before .before .least .result)))
+returns-2 c =
+    let a = c .before .before .before .args in
+    let n = c .before .before .least in (
+      rw (c .least2 .ensures, n .ensures) (column-at (a .time) (a .total) (λ e. c .before .if1 .left (n .ensures ∙ e))),
+      rw (c .least2 .ensures) (column-within (a .time) (n .result)),
+    )
 
 pub column-spec : {M : Type 1} → statement M
 column-spec =

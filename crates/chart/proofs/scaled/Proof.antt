@@ -17,7 +17,14 @@ unfolding scaledOf
 returns-2 c = rw (le-ltb _ _ (c .before .if1 .left), lt-ltb _ _ (c .if2 .taken)) refl
 
 mul-result : tie.Need-mul-result
-mul-result c = let a = c .before .wide .ensures in let b = c .wide2 .ensures in let s = c .before .before .before .before .fits .scale .fits in let x : c .before .wide .result ≤ 16_777_216 = omega arith in let y : c .wide2 .result ≤ 4_294_967_296 = omega arith in let p = mul-le-mul x y in omega arith
+mul-result c =
+    let a = c .before .wide .ensures in
+    let b = c .wide2 .ensures in
+    let s = c .before .before .before .before .fits .scale .fits in
+    let x : c .before .wide .result ≤ 16_777_216 = omega arith in
+    let y : c .wide2 .result ≤ 4_294_967_296 = omega arith in
+    let p = mul-le-mul x y in
+    omega arith
 
 returns-3 : tie.Need-returns-3
 unfolding scaledOf

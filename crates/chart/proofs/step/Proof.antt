@@ -20,10 +20,18 @@ loop-holds : tie.Need-loop-holds Inv-loop μ-loop
 loop-holds c = (omega arith, refl)
 
 returns : tie.Need-returns Inv-loop μ-loop
-returns c = rw (c .before .step-at .ensures) (step-here steps (c .before .before .before .loop .i) (c .before .before .before .before .args .total) (c .before .before .loop-test .taken) (subst (λ x. c .before .before .before .before .args .total / 14 < x) (c .before .step-at .ensures) (c .if1 .taken)) ∙ c .before .before .before .loop .inv .1)
+returns c =
+    let l = c .before .before .before in
+    let n = l .before .args .total in
+    let e = c .before .step-at .ensures in
+    rw e (step-here steps (l .loop .i) n (c .before .before .loop-test .taken) (subst (λ x. n / 14 < x) e (c .if1 .taken)) ∙ l .loop .inv .1)
 
 loop-again : tie.Need-loop-again Inv-loop μ-loop
-loop-again c = (let h = c .before .before .loop-test .taken in omega arith, sym (step-on steps (c .before .before .before .loop .i) (c .before .before .before .before .args .total) (c .before .before .loop-test .taken) (subst (λ x. x ≤ c .before .before .before .before .args .total / 14) (c .before .step-at .ensures) (c .if1 .left))) ∙ c .before .before .before .loop .inv .1)
+loop-again c =
+    let l = c .before .before .before in
+    let n = l .before .args .total in
+    let h = c .before .before .loop-test .taken in
+    (omega arith, sym (step-on steps (l .loop .i) n h (subst (λ x. x ≤ n / 14) (c .before .step-at .ensures) (c .if1 .left))) ∙ l .loop .inv .1)
 
 returns-2 : tie.Need-returns-2 Inv-loop μ-loop
 unfolding stepIn

@@ -38,7 +38,10 @@ add-at : tie.Need-add-at Inv-loop μ-loop
 add-at c = let l = same-long (c .before .before .before .before .before .before .before .before .before .loop .inv .put) in omega (arith, c .before .before .before .before .before .if2 .left, c .before .before .before .before .before .before .before .before .before .loop .inv .within)
 
 loop-again : tie.Need-loop-again Inv-loop μ-loop
-loop-again c = turn _ _ _ (c .before .before .before .before .before .before .before .before .before .loop .inv) (c .before .before .before .before .before .before .before .before .loop-test .taken) (c .before .before .before .before .before .before .before .if1 .left) (c .before .before .before .before .before .if2 .left) _ (c .before .before .put-word .ensures)
+loop-again c =
+    let d = c .before .before .before .before .before in
+    let b = d .before .before in
+    turn _ _ _ (b .before .before .loop .inv) (b .before .loop-test .taken) (b .if1 .left) (d .if2 .left) _ (c .before .before .put-word .ensures)
 
 same-length-3 : tie.Need-same-length-3 Inv-loop μ-loop
 same-length-3 c = same-long (c .before .loop .inv .put)

@@ -29,7 +29,13 @@ add-out : tie.Need-add-out Inv-loop μ-loop
 add-out c = let v = c .before .before .loop .inv .1 in let t = c .before .loop-test .taken in let w = c .before .before .loop .inv .2 in search needs
 
 mul-out : tie.Need-mul-out Inv-loop μ-loop
-mul-out c = let v = c .before .before .loop .inv .1 in let t = c .before .loop-test .taken in let w = c .before .before .loop .inv .2 in let k : c .before .before .before .before .before .before .before .args .at + c .before .before .loop .i < length (c .before .before .loop .out) = omega arith in search needs
+mul-out c =
+    let l = c .before .before .loop in
+    let v = l .inv .1 in
+    let t = c .before .loop-test .taken in
+    let w = l .inv .2 in
+    let k : c .before .before .before .before .before .before .before .args .at + l .i < length (l .out) = omega arith in
+    search needs
 
 slice-write-out : tie.Need-slice-write-out Inv-loop μ-loop
 slice-write-out c = let v = c .before .before .loop .inv .1 in let t = c .before .loop-test .taken in let w = c .before .before .loop .inv .2 in omega arith
