@@ -4,19 +4,20 @@ use borrow.Author.Tests.{eq-eqb, ne-eqb, not-true, not-false}
 use mathlib.Core.Path.{_≡_, sym, ap, _∙_}
 use mathlib.Core.Bool.{false}
 use mathlib.Core.Logic.{⊎-elim}
-use Prim.Native.Nat.{ℕ, _≤_, _<_}
+use Prim.Native.Nat.{ℕ, _<_}
 use native.Mathlib.Omega.{arith}
 use Rattle.event.specs.declared.EventId.{EventId}
 use Rattle.event.specs.declared.Edit.{Edit}
 use Rattle.floats.specs.Arithmetic.{_<ᶠ_}
-use Rattle.lists.specs.declared.Found.the-variants.{At, Nothing}
+use Rattle.lists.specs.declared.Found.the-variants.{Nothing}
 use Rattle.lists.specs.Index.{foundId, isId, noId}
 use Rattle.lists.specs.Edits.{noEdit, isEdit, placed}
-use Rattle.lists.specs.Rounds.{seeking-on, sought, sought-none}
+use Rattle.lists.specs.Rounds.{seeking-on}
 use Rattle.sequencer.specs.Edits.{indexOf}
 use Rattle.plans.specs.declared.Plan.the-variants.{Amend}
 use Rattle.record_output.specs.Lines.{silentLeft}
 use Rattle.plan_meaning.specs.Arms.{counted-few, seeking-edit, seeking-id, amended-active, amended-past, stored-at, stored-last, stored-nowhere, accepted-active, accepted-past, accepted-at, accepted-last, refused-nowhere}
+use Rattle.player.proofs.Searching.{Sought, sought-at, sought-end}
 use Rattle.player.proofs.run.Tie as tie
 use Rattle.player.proofs.run.Proof.Invariants.{With}
 use Rattle.player.proofs.run.Proof.Places.{beginning, kind, engine, less, Called, told, withRefusal, on-silent}
@@ -64,17 +65,10 @@ loop9-again c =
     (l .inv .0, seeking-on noId (isId (id (t .before))) _ _ _ _ (t .loop9-test .taken) (ne-eqb _ _ (c .if13 .left)) (l .inv .1))
 
 sought-id : (c : With tie.Left-loop9)
-    → (let i = c .before .loop9 .i in let n = c .before .before .counted2 .result in let f = foundId (indexOf (beginning (plan (c .before)) .loop .s)) (id (c .before)) in
-    (i < n → At i ≡ f) × (n ≤ i → Nothing ≡ f))
+    → Sought (c .before .before .counted2 .result) (c .before .loop9 .i) (foundId (indexOf (beginning (plan (c .before)) .loop .s)) (id (c .before)))
 sought-id c =
-    let l = c .before .loop9 in
-    let s = beginning (plan (c .before)) .loop .s in
-    let k = id (c .before) in
-    let n = c .before .before .counted2 .result in
-    ⊎-elim
-    (λ w. ((λ h. absurd (omega (arith, w .left, h))), (λ h. sought-none noId (isId k) n (s .«active_map») (l .i) (foundId (indexOf s) k) h (l .inv .1))))
-    (λ w. ((λ h. sought noId (isId k) n (s .«active_map») (l .i) (foundId (indexOf s) k) h (eq-eqb _ _ (w .4 .taken)) (l .inv .1)), (λ h. absurd (omega (arith, w .0 .taken, h)))))
-    (c .loop9-test .came)
+    let v = c .before .loop9 .inv .1 in
+    ⊎-elim (λ w. sought-end (w .left) v) (λ w. sought-at (w .0 .taken) (eq-eqb _ _ (w .4 .taken)) v) (c .loop9-test .came)
 
 -- ---- it sounds
 
@@ -120,18 +114,10 @@ loop10-again c =
     (l .inv .0, seeking-on noEdit (isEdit (id (events (t .before)))) _ _ _ _ (t .loop10-test .taken) (ne-eqb _ _ (c .if16 .left)) (l .inv .1))
 
 sought-stored : (c : With tie.Left-loop10)
-    → (let j = c .before .loop10 .j in let n = c .before .before .counted3 .result in let a = events (c .before) in let f = placed (beginning (plan a) .loop .edits) (id a) in
-    (j < n → At j ≡ f) × (n ≤ j → Nothing ≡ f))
+    → (let a = events (c .before) in Sought (c .before .before .counted3 .result) (c .before .loop10 .j) (placed (beginning (plan a) .loop .edits) (id a)))
 sought-stored c =
-    let l = c .before .loop10 in
-    let a = events (c .before) in
-    let m = beginning (plan a) .loop .edits in
-    let k = id a in
-    let n = c .before .before .counted3 .result in
-    ⊎-elim
-    (λ w. ((λ h. absurd (omega (arith, w .left, h))), (λ h. sought-none noEdit (isEdit k) n (m .items) (l .j) (placed m k) h (l .inv .1))))
-    (λ w. ((λ h. sought noEdit (isEdit k) n (m .items) (l .j) (placed m k) h (eq-eqb _ _ (w .5 .taken)) (l .inv .1)), (λ h. absurd (omega (arith, w .0 .taken, h)))))
-    (c .loop10-test .came)
+    let v = c .before .loop10 .inv .1 in
+    ⊎-elim (λ w. sought-end (w .left) v) (λ w. sought-at (w .0 .taken) (eq-eqb _ _ (w .5 .taken)) v) (c .loop10-test .came)
 
 -- the event does not sound, and the edit is not past
 unsounding : (c : With tie.Left-loop10)

@@ -11,15 +11,15 @@ use lib.ListN.{getD, set}
 use Rattle.event.specs.Events.{blank}
 use Rattle.event.specs.declared.Event.{Event}
 use Rattle.floats.specs.Arithmetic.{_<ᶠ_}
-use Rattle.lists.specs.declared.Found.the-variants.{At, Nothing}
 use Rattle.lists.specs.Edits.{noEdit, isEdit, placed}
-use Rattle.lists.specs.Rounds.{seeking-on, sought, sought-none, shifting-on, shifted}
+use Rattle.lists.specs.Rounds.{seeking-on, shifting-on, shifted}
 use Rattle.sequencer.specs.declared.Sequencer.{Sequencer}
 use Rattle.sequencer.specs.Parts.{withReady, withEdits}
 use Rattle.sequencer.specs.Moves.{poppedReady, readyToActive}
 use Rattle.sequencer.specs.Rounds.{lastPlace, lastOf, sinking-in, sinking-in-on, sunk-in-end, sunk-in-stop}
 use Rattle.sequencer.specs.Turns.{Taking, activating-room, activating-full}
 use Rattle.plan_meaning.specs.Arms.{popped-beside, counted-few, seeking-edit, starts-true, taken-is, taking-at, taking-no, child-is, child-between}
+use Rattle.player.proofs.Searching.{Sought, sought-at, sought-end}
 use Rattle.player.proofs.run.Tie as tie
 use Rattle.player.proofs.run.Proof.Invariants.{With}
 use Rattle.player.proofs.run.Proof.Places.{beginning}
@@ -37,7 +37,7 @@ starting c = c .before .before .before .before .before
 abbrev taken-in : With tie.Joined7 → With tie.At-loop3
 taken-in c = round (starting c)
 
--- the heap's first, and the edits
+-- the heap's first
 abbrev first : With tie.At-loop3 → Event
 first c = getD (c .loop3 .s .ready) 0 blank
 
@@ -67,18 +67,10 @@ loop4-again c =
     (l .inv .0, seeking-on noEdit (isEdit (first (round (t .before .before .before .before)) .id)) _ _ _ _ (t .loop4-test .taken) (ne-eqb _ _ (c .if6 .left)) (l .inv .1))
 
 sought-edit : (c : With tie.Left-loop4)
-    → (let j = c .before .loop4 .j in let n = c .before .before .counted .result in let r = round (c .before .before .before .before) in
-    (j < n → At j ≡ placed (r .loop3 .edits) (first r .id)) × (n ≤ j → Nothing ≡ placed (r .loop3 .edits) (first r .id)))
+    → (let r = round (c .before .before .before .before) in Sought (c .before .before .counted .result) (c .before .loop4 .j) (placed (r .loop3 .edits) (first r .id)))
 sought-edit c =
-    let l = c .before .loop4 in
-    let r = round (c .before .before .before .before) in
-    let m = r .loop3 .edits in
-    let k = first r .id in
-    let n = c .before .before .counted .result in
-    ⊎-elim
-    (λ w. ((λ h. absurd (omega (arith, w .left, h))), (λ h. sought-none noEdit (isEdit k) n (m .items) (l .j) (placed m k) h (l .inv .1))))
-    (λ w. ((λ h. sought noEdit (isEdit k) n (m .items) (l .j) (placed m k) h (eq-eqb _ _ (w .5 .taken)) (l .inv .1)), (λ h. absurd (omega (arith, w .0 .taken, h)))))
-    (c .loop4-test .came)
+    let v = c .before .loop4 .inv .1 in
+    ⊎-elim (λ w. sought-end (w .left) v) (λ w. sought-at (w .0 .taken) (eq-eqb _ _ (w .5 .taken)) v) (c .loop4-test .came)
 
 -- ---- the edits behind it move up
 
