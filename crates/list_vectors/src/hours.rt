@@ -99,8 +99,8 @@ fn length_of(hours: Hours, seed: u32, span: u64) -> u64 {
 
 fn answered(digest: u64, answer: Answer) -> u64 {
     match answer {
-        Answer::At(t) => crate::mixed(crate::mixed(digest, 0), t),
-        Answer::Refused(n) => crate::mixed(crate::mixed(digest, 1), n),
+        Answer::At(t) => digests::mixed(digests::mixed(digest, 0), t),
+        Answer::Refused(n) => digests::mixed(digests::mixed(digest, 1), n),
     }
 }
 

@@ -2,6 +2,7 @@
 mod hours;
 mod peaks;
 
+use digests::mixed;
 use event::Edit;
 use event::Event;
 use event::EventId;
@@ -19,11 +20,6 @@ fn random(seed: u32) -> u32 {
     let x = seed ^ (seed << 13);
     let x = x ^ (x >> 17);
     x ^ (x << 5)
-}
-
-// The digest with one more number in it.
-fn mixed(digest: u64, value: u64) -> u64 {
-    std::num::wrapping_add_u64((digest << 7) ^ (digest >> 57), value)
 }
 
 fn index(x: f64) -> u64 {

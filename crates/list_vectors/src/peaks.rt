@@ -72,7 +72,7 @@ fn feed(fed: Fed, row: &mut [u32], run: &mut [f32], r: u64, window: u64) -> Fed 
 fn all_feeds(window: usize, rounds: u64, row: &mut [u32], run: &mut [f32]) -> u64 {
     let made = RunningPeak::new(window, row);
     let p = made.peak;
-    let mut digest = crate::mixed(made.refusal, p.peak(row) as u64);
+    let mut digest = digests::mixed(made.refusal, p.peak(row) as u64);
     let mut fed = Fed { peak: p, count: 0 };
     let mut seed: u32 = 521288629;
     let mut left = rounds;
@@ -81,9 +81,9 @@ fn all_feeds(window: usize, rounds: u64, row: &mut [u32], run: &mut [f32]) -> u6
         seed = crate::random(seed);
         fed = feed(fed, row, run, seed as u64, window as u64);
         let p = fed.peak;
-        digest = crate::mixed(digest, p.peak(row) as u64);
+        digest = digests::mixed(digest, p.peak(row) as u64);
     }
-    crate::mixed(digest, fed.count)
+    digests::mixed(digest, fed.count)
 }
 
 pub(crate) fn peak_digest(window: usize) -> u64 {

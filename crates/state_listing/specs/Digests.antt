@@ -1,8 +1,9 @@
 -- Digests of an engine's and a desk's parts: every number and every float's bits go into one number of 64 bits. Assumes nothing.
 use mathlib.Core.List.{List, [], _∷_}
-use Prim.Native.Nat.{ℕ, zero, suc, _+_, _*_, _/_, _%_, _^_, min}
+use Prim.Native.Nat.{ℕ, zero, suc, _+_, _%_, _^_, min}
 use lib.Ieee.{Float, binary32, binary64, toBits}
 use lib.ListN.{getD}
+use Rattle.digests.specs.Digests.{mixed, mixedAll}
 use Rattle.event.specs.declared.Event.{Event}
 use Rattle.event.specs.declared.EventId.{EventId}
 use Rattle.event.specs.declared.Edit.{Edit}
@@ -20,18 +21,6 @@ use Rattle.realseq.specs.declared.queues.Message.the-variants.{Reset, Push, Pus
 use Rattle.realseq.specs.declared.queues.Messages.{Messages}
 use Rattle.realseq.specs.declared.queues.Returned.{Returned}
 use Rattle.realseq.specs.Queues.{at}
-
--- ---- numbers
-
--- one more number: the digest turned left by 7 of its 64 bits, and the number added
-unfoldable pub mixed : (digest value : ℕ) → ℕ
-mixed d v = (d % 2 ^ 57 * 128 + d / 2 ^ 57 + v) % 2 ^ 64
-
--- numbers in their order
-unfoldable pub mixedAll : (digest : ℕ) → List ℕ → ℕ
-unfolding mixed
-mixedAll d [] = d
-mixedAll d (v ∷ vs) = mixedAll (mixed d v) vs
 
 -- n things from place i on, each by f
 unfoldable pub each : (f : (i digest : ℕ) → ℕ) → (n i digest : ℕ) → ℕ

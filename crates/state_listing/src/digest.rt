@@ -2,8 +2,10 @@
 ghost use mathlib.Core.Path.{_≡_};
 ghost use mathlib.Core.List.{[], _∷_};
 ghost use lib.Ieee.{binary32, binary64, toBits};
+ghost use Rattle.digests.specs.Digests.{mixed as mixedBy, mixedAll};
 ghost use Rattle.event.specs.Numbers.{curveNumber};
-ghost use Rattle.state_listing.specs.Digests.{mixed as mixedBy, mixedAll, unitWords, eventWords, editWords, messageWords, orderedEvents, unorderedEvents, indexDigest, editsDigest, messagesDigest, returnedDigest};
+ghost use Rattle.state_listing.specs.Digests.{unitWords, eventWords, editWords, messageWords, orderedEvents, unorderedEvents, indexDigest, editsDigest, messagesDigest, returnedDigest};
+use digests::mixed;
 use event::Edit;
 use event::Event;
 use event::EventId;
@@ -15,14 +17,6 @@ use realseq::Message;
 use realseq::Messages;
 use realseq::Returned;
 use runs::least;
-
-// The digest with one more number in it.
-fn mixed(digest: u64, value: u64) -> u64
-    ensures { λ r. ⌜ r ≡ mixedBy digest value ⌝ }
-{
-    let turned = (digest % 0x200_0000_0000_0000) * 128 + digest / 0x200_0000_0000_0000;
-    std::num::wrapping_add_u64(turned, value)
-}
 
 fn mixed_time(digest: u64, x: f64) -> u64
     ensures { λ r. ⌜ r ≡ mixedBy digest (toBits binary64 x) ⌝ }

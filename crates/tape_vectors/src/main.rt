@@ -1,22 +1,9 @@
 // The tapes of standard input, each behind its length in two little-endian bytes: those of oracle/traps, then a long random one. For each a line says how many records were read or refused, the digest of their answers, counts and samples, how many bytes `render` writes into 65,536, and these bytes' digest. The file `stdout` was made by the Rust: see oracle/src/bin/tapevectors.rs.
+use digests::mixed;
+use digests::mixed_bytes;
 use sequencer::Counts;
 use tape::reader::Cursor;
 use tape::reader::Read;
-
-// The digest with one more number in it.
-fn mixed(digest: u64, value: u64) -> u64 {
-    std::num::wrapping_add_u64((digest << 7) ^ (digest >> 57), value)
-}
-
-fn mixed_bytes(bytes: &[u8]) -> u64 {
-    let mut digest: u64 = 0;
-    let mut i = 0;
-    while i < bytes.len() {
-        digest = mixed(digest, bytes[i] as u64);
-        i = i + 1;
-    }
-    digest
-}
 
 fn mixed_samples(digest: u64, samples: &[f32]) -> u64 {
     let mut d = digest;

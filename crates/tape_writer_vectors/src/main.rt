@@ -3,6 +3,7 @@
 // Each record of a tape is read and written again at its own place: the tape's line says where that ended, and has the digest of what was written.
 // The file `stdout` was made by the Rust: see oracle/src/bin/writervectors.rs.
 ghost use Prim.Native.Nat.{_≤_};
+use digests::mixed_bytes;
 use tape::fields;
 use tape::reader::Cursor;
 use tape::reader::Read;
@@ -55,20 +56,6 @@ fn write_one() -> bool {
     let n = within(fields::word32(&request, 100));
     let mut buf = [0xEEu8; 64];
     show(a, &mut buf[0..n], at)
-}
-
-fn mixed(digest: u64, value: u64) -> u64 {
-    std::num::wrapping_add_u64((digest << 7) ^ (digest >> 57), value)
-}
-
-fn mixed_bytes(bytes: &[u8]) -> u64 {
-    let mut digest: u64 = 0;
-    let mut i = 0;
-    while i < bytes.len() {
-        digest = mixed(digest, bytes[i] as u64);
-        i = i + 1;
-    }
-    digest
 }
 
 // Reads each record of the tape and writes it again at its own place; the place where that ended.

@@ -5,7 +5,8 @@ use Prim.Native.Nat.{ℕ, _+_, _-_, _%_, _^_}
 use lib.ListN.{getD}
 use Rattle.lists.specs.declared.EditMap.{EditMap}
 use Rattle.lists.specs.Edits.{noEdit}
-use Rattle.state_listing.specs.Digests.{mixedAll, editWords, each, editsDigest}
+use Rattle.digests.specs.Digests.{mixedAll}
+use Rattle.state_listing.specs.Digests.{editWords, each, editsDigest}
 use Rattle.state_listing.proofs.Running.{Running, running, running-on, run-through}
 use Rattle.state_listing.proofs.digest.edits.Statement.{statement}
 use Rattle.state_listing.proofs.digest.edits.Tie as tie

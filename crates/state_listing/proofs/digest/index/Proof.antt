@@ -6,7 +6,8 @@ use Prim.Native.Nat.{ℕ, _-_}
 use lib.ListN.{getD}
 use Rattle.event.specs.declared.EventId.{EventId}
 use Rattle.lists.specs.Index.{noId}
-use Rattle.state_listing.specs.Digests.{mixed, each, indexDigest}
+use Rattle.digests.specs.Digests.{mixed}
+use Rattle.state_listing.specs.Digests.{each, indexDigest}
 use Rattle.state_listing.proofs.Running.{Running, running, running-on, run-through}
 use Rattle.state_listing.proofs.digest.index.Statement.{statement}
 use Rattle.state_listing.proofs.digest.index.Tie as tie

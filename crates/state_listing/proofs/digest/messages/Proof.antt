@@ -4,7 +4,8 @@ use mathlib.Core.Path.{_≡_, refl, ap, _∙_}
 use Prim.Native.Nat.{ℕ, _-_, _%_}
 use Rattle.realseq.specs.declared.queues.Messages.{Messages}
 use Rattle.realseq.specs.Queues.{at}
-use Rattle.state_listing.specs.Digests.{mixedAll, messageWords, each, messagesDigest}
+use Rattle.digests.specs.Digests.{mixedAll}
+use Rattle.state_listing.specs.Digests.{messageWords, each, messagesDigest}
 use Rattle.state_listing.proofs.Running.{Running, running, running-on, run-through}
 use Rattle.state_listing.proofs.digest.messages.Statement.{statement}
 use Rattle.state_listing.proofs.digest.messages.Tie as tie

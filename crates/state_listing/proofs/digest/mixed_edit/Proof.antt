@@ -1,7 +1,7 @@
 -- `state_listing::digest::mixed_edit` meets its contract. Assumes nothing.
 use borrow.Author.Needs.{needs}
 use mathlib.Core.Path.{refl}
-use Rattle.state_listing.specs.Digests.{mixedAll}
+use Rattle.digests.specs.Digests.{mixedAll}
 use Rattle.state_listing.proofs.Mixing.{after}
 use Rattle.state_listing.proofs.digest.mixed_edit.Statement.{statement}
 use Rattle.state_listing.proofs.digest.mixed_edit.Tie as tie

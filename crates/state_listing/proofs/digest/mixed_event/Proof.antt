@@ -2,7 +2,8 @@
 use borrow.Author.Needs.{needs}
 use mathlib.Core.Path.{refl, ap, _∙_}
 use Prim.Native.Nat.{ℕ}
-use Rattle.state_listing.specs.Digests.{mixedAll, unitWords, eventWords}
+use Rattle.digests.specs.Digests.{mixedAll}
+use Rattle.state_listing.specs.Digests.{unitWords, eventWords}
 use Rattle.state_listing.proofs.Mixing.{after}
 use Rattle.state_listing.proofs.digest.mixed_event.Statement.{statement}
 use Rattle.state_listing.proofs.digest.mixed_event.Tie as tie

@@ -2,7 +2,8 @@
 use borrow.Author.Needs.{needs}
 use mathlib.Core.Path.{sym, ap, _∙_}
 use Prim.Native.Nat.{ℕ}
-use Rattle.state_listing.specs.Digests.{mixedAll, eventWords, editWords, messageWords}
+use Rattle.digests.specs.Digests.{mixedAll}
+use Rattle.state_listing.specs.Digests.{eventWords, editWords, messageWords}
 use Rattle.state_listing.proofs.digest.mixed_message.Statement.{statement}
 use Rattle.state_listing.proofs.digest.mixed_message.Tie as tie
 

@@ -1,7 +1,7 @@
 -- `state_listing::digest::mixed_unit` meets its contract, source by source. Assumes nothing.
 use borrow.Author.Needs.{needs}
 use mathlib.Core.Path.{refl, sym, ap, _∙_}
-use Rattle.state_listing.specs.Digests.{mixedAll}
+use Rattle.digests.specs.Digests.{mixedAll}
 use Rattle.state_listing.proofs.Mixing.{after, words-of}
 use Rattle.state_listing.proofs.digest.mixed_unit.Statement.{statement}
 use Rattle.state_listing.proofs.digest.mixed_unit.Tie as tie

@@ -5,7 +5,8 @@ use Prim.Native.Nat.{ℕ, _-_}
 use lib.ListN.{getD}
 use Rattle.realseq.specs.declared.queues.Returned.{Returned}
 use Rattle.lists.specs.Index.{noId}
-use Rattle.state_listing.specs.Digests.{mixed, each, returnedDigest}
+use Rattle.digests.specs.Digests.{mixed}
+use Rattle.state_listing.specs.Digests.{each, returnedDigest}
 use Rattle.state_listing.proofs.Running.{Running, running, running-on, run-through}
 use Rattle.state_listing.proofs.digest.returned.Statement.{statement}
 use Rattle.state_listing.proofs.digest.returned.Tie as tie

@@ -1,9 +1,9 @@
--- `state_listing::digest::mixed` meets its contract. Assumes nothing.
+-- `digests::mixed` meets its contract. Assumes nothing.
 use borrow.Author.Needs.{needs}
-use Rattle.state_listing.specs.Digests.{mixed}
-use Rattle.state_listing.proofs.Mixing.{turned-fits}
-use Rattle.state_listing.proofs.digest.mixed.Statement.{statement}
-use Rattle.state_listing.proofs.digest.mixed.Tie as tie
+use Rattle.digests.specs.Digests.{mixed}
+use Rattle.digests.proofs.Mixing.{turned-fits}
+use Rattle.digests.proofs.mixed.Statement.{statement}
+use Rattle.digests.proofs.mixed.Tie as tie
 
 add-turned : tie.Need-add-turned
 add-turned c = record { fits = turned-fits _ (c .fits .digest .fits) }
