@@ -169,17 +169,13 @@ fn read_tape() {
     }
 }
 
-fn usage() {
-    io::write_all(
-        2,
-        b"usage: tape_read <TAPE >ARGUMENTS\nTakes the tape on standard input apart: for each record its arguments, 120 bytes.\ndocs/HANDBOOK.md says what a tape is; tape_text makes one from text.\n",
-    );
-}
-
-// There are no arguments; on a terminal nothing could be read.
+// There are no arguments, and on a terminal nothing could be read: there the usage is all.
 fn main() {
     if libc::isatty(0) == 1 || 1 < os::arg_count() {
-        usage();
+        io::write_all(
+            2,
+            b"usage: tape_read <TAPE >ARGUMENTS\nTakes the tape on standard input apart: for each record its arguments, 120 bytes.\ndocs/HANDBOOK.md says what a tape is; tape_text makes one from text.\n",
+        );
         return;
     }
     read_tape();

@@ -93,17 +93,13 @@ fn write_tape() {
     }
 }
 
-fn usage() {
-    io::write_all(
-        2,
-        b"usage: tape_write <ARGUMENTS >TAPE\nPuts a tape together from the arguments on standard input, 120 bytes a record.\ndocs/HANDBOOK.md says what a tape is; tape_text makes one from text.\n",
-    );
-}
-
-// There are no arguments; on a terminal nothing could be read.
+// There are no arguments, and on a terminal nothing could be read: there the usage is all.
 fn main() {
     if libc::isatty(0) == 1 || 1 < os::arg_count() {
-        usage();
+        io::write_all(
+            2,
+            b"usage: tape_write <ARGUMENTS >TAPE\nPuts a tape together from the arguments on standard input, 120 bytes a record.\ndocs/HANDBOOK.md says what a tape is; tape_text makes one from text.\n",
+        );
         return;
     }
     write_tape();
