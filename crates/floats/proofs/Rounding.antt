@@ -3,7 +3,8 @@ use mathlib.Core.Path.{_≡_, refl, sym, ap, _∙_, subst}
 use mathlib.Core.Logic.{_⊎_, inl, inr}
 use mathlib.Core.Bool.{Bool, true, false, not, cond}
 use Prim.Native.Nat.{ℕ, zero, suc, _+_, _-_, _*_, _/_, _%_, _^_, _≤_, _<_, min, compare, Ordering}
-use native.Mathlib.Nat.{le-antisymm, le-trans, le-of-eq, lt-of-lt-of-le, lt-of-le-of-lt, lt-of-not-le, not-le-of-lt, lt-irrefl, le-refl, le-of-suc-le-suc, eq-zero-or-pos, eq-or-lt-of-le, mul-assoc, mul-div-cancel, mul-le-mul-right, le-of-mul-le-mul-right, mul-one, mul-pos, add-assoc, pow-succ', le-div-iff-mul-le, div-lt-iff-lt-mul}
+use native.Mathlib.Nat.{le-antisymm, le-trans, le-of-eq, lt-of-lt-of-le, lt-of-le-of-lt, lt-of-not-le, not-le-of-lt, lt-irrefl, le-refl, le-of-suc-le-suc}
+use native.Mathlib.Nat.{eq-zero-or-pos, eq-or-lt-of-le, mul-assoc, mul-div-cancel, mul-le-mul-right, le-of-mul-le-mul-right, mul-one, mul-pos, add-assoc, pow-succ', le-div-iff-mul-le, div-lt-iff-lt-mul}
 use native.Mathlib.Omega.{arith}
 use lib.Dec.{T, ltb, ltb→lt, nltb→le}
 use lib.Pow.{pow-add, pow-pos, pow-mono, pow-lt, shl-lt}

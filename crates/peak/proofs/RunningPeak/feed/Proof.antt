@@ -22,7 +22,10 @@ same-length-2 c = ap length (c .before .before .before .suffix-maxima .ensures) 
 
 returns-4 : tie.Need-returns-4
 unfolding magnitude
-returns-4 c = rw (c .fresh .ensures, c .before .before .before .suffix-maxima .ensures, c .before .before .before .before .before .before .f32-to-bits .ensures) (sym (turns _ _ _ (c .before .before .before .before .before .before .before .before .if1 .left) (c .before .before .before .before .before .before .before .if2 .left) (c .before .before .before .before .before .if3 .left)))
+returns-4 c =
+    let d = c .before .before .before .before .before in
+    let t = turns _ _ _ (d .before .before .before .if1 .left) (d .before .before .if2 .left) (d .if3 .left) in
+    rw (c .fresh .ensures, c .before .before .before .suffix-maxima .ensures, d .before .f32-to-bits .ensures) (sym t)
 
 pub feed-spec : {M : Type 1} → statement M
 feed-spec =
