@@ -12,27 +12,36 @@ use Rattle.runs.proofs.add_source.Tie as tie
 
 returns : tie.Need-returns
 returns c =
-    let u = c .before .before .before .before .before .before .before .before .before .args .unit in
-    let pool = now (c .before .before .before .before .before .before .before .before .before .args .pool) in
-    let l = now (c .before .before .before .before .before .before .before .before .before .args .s) in
-    let g = c .before .before .before .before .before .source .given in
-    (c .before .before .add-level .ensures ∙ added-level (c .before .before .before .before .before .before .before .before .before .args .gain) (g .0 .0) l ∙ ap (λ (r : List Float). added (c .before .before .before .before .before .before .before .before .before .args .gain) r l) (sym (held-given pool u (g .0 .0) (g .1) (length l))), sym (held-after pool u (g .0 .0) (g .1) (length l)))
+    let a = c .before .before .before .before .before .before .before .before .before .args in
+    let u = a .unit in
+    let pool = now (a .pool) in
+    let l = now (a .s) in
+    let g = c .before .before .before .before .before .source .given in (
+      c .before .before .add-level .ensures ∙ added-level (a .gain) (g .0 .0) l ∙ ap (λ (r : List Float). added (a .gain) r l) (sym (held-given pool u (g .0 .0) (g .1) (length l))),
+      sym (held-after pool u (g .0 .0) (g .1) (length l)),
+    )
 
 returns-2 : tie.Need-returns-2
 returns-2 c =
-    let u = c .before .before .before .before .before .before .before .before .before .args .unit in
-    let pool = now (c .before .before .before .before .before .before .before .before .before .args .pool) in
-    let l = now (c .before .before .before .before .before .before .before .before .before .args .s) in
-    let g = c .before .before .before .before .before .source2 .given in
-    (c .before .before .add-ramp .ensures .0 ∙ ap (λ (r : List Float). added (c .before .before .before .before .before .before .before .before .before .args .gain) r l) (sym (ramp-given pool u (g .0 .0) (g .0 .1 .0) (g .1) (length l))), rw (c .before .before .add-ramp .ensures .1) (sym (ramp-after pool u (g .0 .0) (g .0 .1 .0) (g .1) (length l))))
+    let a = c .before .before .before .before .before .before .before .before .before .args in
+    let u = a .unit in
+    let pool = now (a .pool) in
+    let l = now (a .s) in
+    let g = c .before .before .before .before .before .source2 .given in (
+      c .before .before .add-ramp .ensures .0 ∙ ap (λ (r : List Float). added (a .gain) r l) (sym (ramp-given pool u (g .0 .0) (g .0 .1 .0) (g .1) (length l))),
+      rw (c .before .before .add-ramp .ensures .1) (sym (ramp-after pool u (g .0 .0) (g .0 .1 .0) (g .1) (length l))),
+    )
 
 returns-3 : tie.Need-returns-3
 returns-3 c =
-    let u = c .before .before .before .before .before .before .before .before .before .args .unit in
-    let pool = now (c .before .before .before .before .before .before .before .before .before .args .pool) in
-    let l = now (c .before .before .before .before .before .before .before .before .before .args .s) in
-    let g = c .before .before .before .before .before .source3 .given in
-    (c .before .before .add-clip .ensures .0 ∙ ap (λ (r : List Float). added (c .before .before .before .before .before .before .before .before .before .args .gain) r l) (sym (clip-given pool u (g .0 .0) (g .0 .1 .0) (g .1) (length l))), rw (c .before .before .add-clip .ensures .1) (sym (clip-after pool u (g .0 .0) (g .0 .1 .0) (g .1) (length l))))
+    let a = c .before .before .before .before .before .before .before .before .before .args in
+    let u = a .unit in
+    let pool = now (a .pool) in
+    let l = now (a .s) in
+    let g = c .before .before .before .before .before .source3 .given in (
+      c .before .before .add-clip .ensures .0 ∙ ap (λ (r : List Float). added (a .gain) r l) (sym (clip-given pool u (g .0 .0) (g .0 .1 .0) (g .1) (length l))),
+      rw (c .before .before .add-clip .ensures .1) (sym (clip-after pool u (g .0 .0) (g .0 .1 .0) (g .1) (length l))),
+    )
 
 pub add-source-spec : {M : Type 1} → statement M
 add-source-spec =

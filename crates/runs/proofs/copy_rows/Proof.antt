@@ -20,7 +20,11 @@ sub-loop : tie.Need-sub-loop Inv-loop μ-loop
 sub-loop c = omega (arith, c .loop .inv .within)
 
 loop-again : tie.Need-loop-again Inv-loop μ-loop
-loop-again c = rows-turn _ _ (c .before .before .copy-row .last .0) (c .before .before .before .before .before .loop .inv) (omega (arith, c .before .before .before .before .before .loop .inv .within, c .before .before .before .before .loop-test .taken)) (c .before .before .copy-row .ensures) (c .before .before .copy-row .kept .0)
+loop-again c =
+    let r = c .before .before .copy-row in
+    let t = c .before .before .before .before in
+    let i = t .before .loop .inv in
+    rows-turn _ _ (r .last .0) i (omega (arith, i .within, t .loop-test .taken)) (r .ensures) (r .kept .0)
 
 returns : tie.Need-returns Inv-loop μ-loop
 returns c = rows-done _ _ (c .before .loop .inv) (omega (arith, c .before .loop .inv .within, c .loop-test .left))

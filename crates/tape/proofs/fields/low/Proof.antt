@@ -22,14 +22,25 @@ mul-n : tie.Need-mul-n Inv-loop μ-loop
 mul-n c = omega (arith, next-fits _ _ _ _ (λ i. c .before .before .before .shared-slice-known .given i .fits) (c .before .loop .inv .1 .0) (c .loop-test .taken) (c .before .loop .inv .0) (c .before .loop .inv .1 .1))
 
 add-n : tie.Need-add-n Inv-loop μ-loop
-add-n c = omega (arith, next-fits _ _ _ _ (λ i. c .before .before .before .before .before .shared-slice-known .given i .fits) (c .before .before .before .loop .inv .1 .0) (c .before .before .loop-test .taken) (c .before .before .before .loop .inv .0) (c .before .before .before .loop .inv .1 .1), c .wide .ensures, c .before .byte .ensures)
+add-n c =
+    let l = c .before .before .before in
+    let i = l .loop .inv in
+    let h = next-fits _ _ _ _ (λ j. l .before .before .shared-slice-known .given j .fits) (i .1 .0) (c .before .before .loop-test .taken) (i .0) (i .1 .1) in
+    omega (arith, h, c .wide .ensures, c .before .byte .ensures)
 
 loop-again : tie.Need-loop-again Inv-loop μ-loop
-loop-again c = (let l = c .before .before .before .loop .inv .0 in omega arith, (c .before .before .before .loop .inv .1 .0, next-byte _ _ _ _ _ (c .before .before .loop-test .taken) (c .before .before .before .loop .inv .0) (c .before .before .before .loop .inv .1 .1) (c .wide .ensures ∙ c .before .byte .ensures)))
+loop-again c =
+    let i = c .before .before .before .loop .inv in
+    let l = i .0 in
+    (omega arith, (i .1 .0, next-byte _ _ _ _ _ (c .before .before .loop-test .taken) l (i .1 .1) (c .wide .ensures ∙ c .before .byte .ensures)))
 
 returns : tie.Need-returns Inv-loop μ-loop
 unfolding field
-returns c = let z : c .before .loop .i ≡ 0 = omega (arith, c .loop-test .left) in c .before .loop .inv .1 .1 ∙ ap (λ (k : ℕ). fromLittleEndian (drop k (take (c .before .before .least .result) (c .before .before .before .before .args .bs .now)))) z ∙ ap (λ (k : ℕ). fromLittleEndian (take k (c .before .before .before .before .args .bs .now))) (c .before .before .least .ensures)
+returns c =
+    let bs = c .before .before .before .before .args .bs .now in
+    let n = c .before .before .least in
+    let z : c .before .loop .i ≡ 0 = omega (arith, c .loop-test .left) in
+    c .before .loop .inv .1 .1 ∙ ap (λ (k : ℕ). fromLittleEndian (drop k (take (n .result) bs))) z ∙ ap (λ (k : ℕ). fromLittleEndian (take k bs)) (n .ensures)
 
 pub low-spec : {M : Type 1} → statement M
 low-spec =

@@ -7,7 +7,9 @@ use Rattle.tape.proofs.reader.call_of.Tie as tie
 
 returns : tie.Need-returns
 unfolding callOf
-returns c = simp (sym (c .before .before .before .before .before .plain-kind .ensures ∙ ap plainKind (c .before .before .before .before .before .before .byte .ensures)) ∙ c .before .before .before .before .match .keys1, sym (c .before .before .before .byte2 .ensures), sym (c .before .before .mode-of .ensures), sym (c .before .byte3 .ensures), sym (c .word64 .ensures))
+returns c =
+    let k = c .before .before .before .before .before in
+    simp (sym (k .plain-kind .ensures ∙ ap plainKind (k .before .byte .ensures)) ∙ c .before .before .before .before .match .keys1, sym (c .before .before .before .byte2 .ensures), sym (c .before .before .mode-of .ensures), sym (c .before .byte3 .ensures), sym (c .word64 .ensures))
 
 returns-2 : tie.Need-returns-2
 unfolding callOf
