@@ -1,3 +1,4 @@
+-- `mixing::add_event` meets its contract. Assumes nothing.
 use Prim.Native.Nat.{_-_, _≤_}
 use mathlib.Core.Path.{_≡_, ap, _∙_, sym}
 use mathlib.Core.Bool.{true, _||_}
@@ -25,13 +26,20 @@ add-plain-requires c κs =
 
 returns : tie.Need-returns
 returns c =
-    let a = c .before .before .before .before .before .before .before .before .before .before .before .before .args in
+    let at-add-plain = c .before .before in
+    let at-if2 = at-add-plain .before .before .before in
+    let at-is-plain = at-if2 .before in
+    let at-least = at-is-plain .before in
+    let at-if1 = at-least .before in
+    let at-is-through = at-if1 .before in
+    let start = at-is-through .before .before .before in
+    let a = start .args in
     let b = asSpan (a .span) in
     let e = a .event in
-    let n = c .before .before .before .before .before .before .before .least .result in
-    let k = is-plain (leb n (length (now (a .channel)))) (fadesIn b e || fadesOut b e) (sym (c .before .before .before .before .before .before .is-plain .ensures) ∙ c .before .before .before .before .before .if2 .taken) in
-    let h = sym (c .before .before .before .before .before .before .before .before .before .is-through .ensures) ∙ c .before .before .before .before .before .before .before .before .if1 .taken in
-    (c .before .before .add-plain .ensures .0 ∙ rw (c .before .before .before .before .before .before .before .least .ensures) (through-unit b e h (k .1)), c .before .before .add-plain .ensures .1 ∙ rw (c .before .before .before .before .before .before .before .least .ensures) (through-channel b e h (k .1) (now (a .pool)) (now (a .channel))))
+    let n = at-least .least .result in
+    let k = is-plain (leb n (length (now (a .channel)))) (fadesIn b e || fadesOut b e) (sym (at-is-plain .is-plain .ensures) ∙ at-if2 .if2 .taken) in
+    let h = sym (at-is-through .is-through .ensures) ∙ at-if1 .if1 .taken in
+    (at-add-plain .add-plain .ensures .0 ∙ rw (at-least .least .ensures) (through-unit b e h (k .1)), at-add-plain .add-plain .ensures .1 ∙ rw (at-least .least .ensures) (through-channel b e h (k .1) (now (a .pool)) (now (a .channel))))
 
 returns-2 : tie.Need-returns-2
 returns-2 c =

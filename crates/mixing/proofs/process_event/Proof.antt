@@ -1,3 +1,4 @@
+-- `mixing::process_event` meets its contract. Assumes nothing.
 use Prim.Native.Nat.{ℕ, _-_, _≤_}
 use mathlib.Core.Path.{_≡_, ap, _∙_, sym}
 use mathlib.Core.Bool.{true, _||_}
@@ -35,27 +36,41 @@ add-plain-requires c κs =
 returns : tie.Need-returns
 unfolding channelAfter afterBlock
 returns c =
-    let a = c .before .before .before .before .before .before .before .before .before .before .before .before .args in
+    let at-add-plain = c .before .before in
+    let at-if2 = at-add-plain .before .before in
+    let at-is-plain = at-if2 .before in
+    let at-if1 = at-is-plain .before in
+    let at-end-place = at-if1 .before .before in
+    let at-first-place = at-end-place .before in
+    let start = at-first-place .before .before .before in
+    let a = start .args in
     let b = asSpan (a .span) in
     let e = a .event in
-    let first = ap (λ (q : Place). q .at) (c .before .before .before .before .before .before .before .before .before .first-place .ensures) in
-    let end = ap (λ (q : Place). q .at) (c .before .before .before .before .before .before .before .before .end-place .ensures) in
-    let s = c .before .before .before .before .before .before .before .before .before .first-place .result .at in
-    let z = c .before .before .before .before .before .before .before .before .end-place .result .at in
-    let k = is-plain (leb z (length (now (a .channel)))) (fadesIn b e || fadesOut b e) (sym (c .before .before .before .before .before .is-plain .ensures) ∙ c .before .before .before .before .if2 .taken) in
-    let test = lt-ltb s z (c .before .before .before .before .before .before .if1 .taken) in
-    (rw (← first, ← end, test) (moved-on (e .unit) (z - s) (c .before .before .add-plain .result) (c .before .before .add-plain .ensures .0)), rw (← first, ← end, test, plain-run b e (k .1) (now (a .pool)) s z) (c .before .before .add-plain .ensures .1))
+    let first = ap (λ (q : Place). q .at) (at-first-place .first-place .ensures) in
+    let end = ap (λ (q : Place). q .at) (at-end-place .end-place .ensures) in
+    let s = at-first-place .first-place .result .at in
+    let z = at-end-place .end-place .result .at in
+    let k = is-plain (leb z (length (now (a .channel)))) (fadesIn b e || fadesOut b e) (sym (at-is-plain .is-plain .ensures) ∙ at-if2 .if2 .taken) in
+    let test = lt-ltb s z (at-if1 .if1 .taken) in
+    (rw (← first, ← end, test) (moved-on (e .unit) (z - s) (at-add-plain .add-plain .result) (at-add-plain .add-plain .ensures .0)), rw (← first, ← end, test, plain-run b e (k .1) (now (a .pool)) s z) (at-add-plain .add-plain .ensures .1))
 
 part-row-end : tie.Need-part-row-end
-part-row-end c = omega (arith, end-within (asSpan (c .before .before .before .before .before .before .before .before .args .span)) (c .before .before .before .before .before .before .before .before .args .event), ap (λ (q : Place). q .at) (c .before .before .before .before .end-place .ensures))
+part-row-end c =
+    let at-end-place = c .before .before .before .before in
+    let start = at-end-place .before .before .before .before in
+    omega (arith, end-within (asSpan (start .args .span)) (start .args .event), ap (λ (q : Place). q .at) (at-end-place .end-place .ensures))
 
 returns-2 : tie.Need-returns-2
 unfolding channelAfter afterBlock
 returns-2 c =
-    let first = ap (λ (q : Place). q .at) (c .before .before .before .before .before .before .before .before .before .before .before .first-place .ensures) in
-    let end = ap (λ (q : Place). q .at) (c .before .before .before .before .before .before .before .before .before .before .end-place .ensures) in
-    let test = lt-ltb (c .before .before .before .before .before .before .before .before .before .before .before .first-place .result .at) (c .before .before .before .before .before .before .before .before .before .before .end-place .result .at) (c .before .before .before .before .before .before .before .before .if1 .taken) in
-    (rw (← first, ← end, test) (c .before .before .before .add-run .ensures .0), rw (← first, ← end, test) (c .before .before .before .add-run .ensures .1))
+    let at-add-run = c .before .before .before in
+    let at-if1 = at-add-run .before .before .before .before .before in
+    let at-end-place = at-if1 .before .before in
+    let at-first-place = at-end-place .before in
+    let first = ap (λ (q : Place). q .at) (at-first-place .first-place .ensures) in
+    let end = ap (λ (q : Place). q .at) (at-end-place .end-place .ensures) in
+    let test = lt-ltb (at-first-place .first-place .result .at) (at-end-place .end-place .result .at) (at-if1 .if1 .taken) in
+    (rw (← first, ← end, test) (at-add-run .add-run .ensures .0), rw (← first, ← end, test) (at-add-run .add-run .ensures .1))
 
 returns-3 : tie.Need-returns-3
 unfolding channelAfter afterBlock

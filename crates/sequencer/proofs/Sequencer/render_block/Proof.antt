@@ -71,8 +71,12 @@ let-go-fits c = search needs
 begun : (c : tie.Joined2 Inv-loop μ-loop Inv-loop2 μ-loop2) → (let s = c .before .before .before .before .before .before .before .before .before .args .t1 in c .if2 .self ≡ advanced s (endBy s (c .before .before .before .before .before .before .nearest-u64-to-f64 .result)))
 unfolding ofBits
 begun c =
-    let s = c .before .before .before .before .before .before .before .before .before .args .t1 in
-    ⊎-elim (λ w. w .2 ∙ w .1 .ensures) (λ w. w .1 ∙ steady (endBy s (c .before .before .before .before .before .before .nearest-u64-to-f64 .result)) (let-go-fits (c .before .before .before .before .before .before .before .before .before)) (c .before .before .before .before .loop .inv) (c .before .lists-change .ensures) (w .0 .left)) (c .if2 .came)
+    let at-loop = c .before .before .before .before in
+    let at-nearest-u64-to-f64 = at-loop .before .before in
+    let at-before = at-nearest-u64-to-f64 .before .before in
+    let start = at-before .before in
+    let s = start .args .t1 in
+    ⊎-elim (λ w. w .2 ∙ w .1 .ensures) (λ w. w .1 ∙ steady (endBy s (at-nearest-u64-to-f64 .nearest-u64-to-f64 .result)) (let-go-fits (at-before .before)) (at-loop .loop .inv) (c .before .lists-change .ensures) (w .0 .left)) (c .if2 .came)
 
 loop-holds : tie.Need-loop-holds Inv-loop μ-loop Inv-loop2 μ-loop2
 loop-holds c = scanning-start (c .least .ensures)
@@ -83,9 +87,10 @@ loop-again c = scanning-on (c .before .before .before .loop-test .taken) (c .if1
 loop2-holds : tie.Need-loop2-holds Inv-loop μ-loop Inv-loop2 μ-loop2
 unfolding ofBits
 loop2-holds c =
+    let at-least2 = c .before .before in
     let k = c .before .cleared-places .result in (
-      passing-start (c .before .before .least2 .ensures) (take-replicate k 64 zeroᶠ (omega (arith, c .before .cleared-places .ensures)) ∙ ap (λ (n : ℕ). replicate n zeroᶠ) (c .before .cleared-places .ensures)),
-      passing-start (c .before .before .least2 .ensures) (c .new .ensures),
+      passing-start (at-least2 .least2 .ensures) (take-replicate k 64 zeroᶠ (omega (arith, c .before .cleared-places .ensures)) ∙ ap (λ (n : ℕ). replicate n zeroᶠ) (c .before .cleared-places .ensures)),
+      passing-start (at-least2 .least2 .ensures) (c .new .ensures),
       refl,
     )
 
@@ -106,19 +111,26 @@ way-write-given-self-2 c = omega (arith, c .before .before .before .before .befo
 
 loop2-again : tie.Need-loop2-again Inv-loop μ-loop Inv-loop2 μ-loop2
 loop2-again c =
-    let l = c .before .before .before .before .before .before .before .before .before .loop2 in
-    let k = c .before .before .before .before .before .before .before .before .before .before .before .cleared-places .result in
-    let r = c .before .before .before .before .process-event in
-    let place = c .before .before .before .before .before .before .before .mix-place .ensures .0 in
+    let at-process-event = c .before .before .before .before in
+    let at-mix-place = at-process-event .before .before .before in
+    let at-loop2-test = at-mix-place .before in
+    let at-loop2 = at-loop2-test .before in
+    let at-cleared-places = at-loop2 .before .before in
+    let at-nearest-u64-to-f64 = at-cleared-places .before .before .before .before .before .before .before .before in
+    let start = at-nearest-u64-to-f64 .before .before .before in
+    let l = at-loop2 .loop2 in
+    let k = at-cleared-places .cleared-places .result in
+    let r = at-process-event .process-event in
+    let place = at-mix-place .mix-place .ensures .0 in
     let ys = r .last .1 .1 .1 .0 in
     let kept = r .kept .1 .1 .1 .0 in
-    let h : k ≤ length (l .mix) = omega (arith, c .before .before .before .before .before .before .before .before .before .before .before .cleared-places .ensures, l .inv .2) in
+    let h : k ≤ length (l .mix) = omega (arith, at-cleared-places .cleared-places .ensures, l .inv .2) in
     let q : take k (ys ++ drop (k - 0) (l .mix)) ≡ ys = take-at ys (drop (k - 0) (l .mix)) k (kept ∙ rw sub-zero (length-take-le k (l .mix) h)) in
-    let a = c .before .before .before .before .before .before .before .before .before .before .before .before .before .before .before .before .before .before .before .before .before .before .args in
-    let b = until (a .t1) (a .size) (endBy (a .t1) (c .before .before .before .before .before .before .before .before .before .before .before .before .before .before .before .before .before .before .before .nearest-u64-to-f64 .result)) in
-    let v : ys ≡ channelAfter (now (a .pool)) b (getD (l .self .active) (c .before .before .before .before .before .before .before .mix-place .result) blank) (take k (l .mix)) = r .ensures .1 ∙ rw sub-zero in (
-      passing-stored (source-moves b) place (r .ensures .0) (q ∙ v) (c .before .before .before .before .before .before .before .before .loop2-test .taken) (l .inv .0),
-      passing-stored (source-moves b) place (r .ensures .0) (c .count-places .ensures) (c .before .before .before .before .before .before .before .before .loop2-test .taken) (l .inv .1),
+    let a = start .args in
+    let b = until (a .t1) (a .size) (endBy (a .t1) (at-nearest-u64-to-f64 .nearest-u64-to-f64 .result)) in
+    let v : ys ≡ channelAfter (now (a .pool)) b (getD (l .self .active) (at-mix-place .mix-place .result) blank) (take k (l .mix)) = r .ensures .1 ∙ rw sub-zero in (
+      passing-stored (source-moves b) place (r .ensures .0) (q ∙ v) (at-loop2-test .loop2-test .taken) (l .inv .0),
+      passing-stored (source-moves b) place (r .ensures .0) (c .count-places .ensures) (at-loop2-test .loop2-test .taken) (l .inv .1),
       same-len-mid 0 (k - 0) (l .mix) ys kept ∙ l .inv .2,
     )
 
@@ -128,7 +140,9 @@ part-overlay-channels-end c = omega (arith, c .before .before .before .before .b
 returns : tie.Need-returns Inv-loop μ-loop Inv-loop2 μ-loop2
 unfolding renderedBlock renderedBlockOut renderedPlaces blockPass placesPass
 returns c =
-    let e = c .before .before .before .before .before .before in
+    let at-overlay-channels = c .before .before in
+    let at-before = at-overlay-channels .before .before .before in
+    let e = at-before .before in
     let l = e .before .loop2 in
     let d = e .before .before .before in
     let k = d .cleared-places .result in
@@ -139,7 +153,7 @@ returns c =
     let w = subst (Done (a .order) (now (a .pool)) (a .size) (a .t1) (l .self) (take k (l .mix))) q (passing-end (begun j) (e .loop2-test .left) (l .inv .0)) in
     let v = subst (Counted (a .order) (a .size) (a .t1) (l .places)) q (passing-end (begun j) (e .loop2-test .left) (l .inv .1) .1) in
     let p : take (k - 0) (l .mix) ≡ take k (l .mix) = rw sub-zero in
-    (ap₂ (λ (s : Sequencer) (c : Placings). record { sequencer = s; places = c }) (w .0) v, c .before .before .overlay-channels .ensures ∙ ap (λ (run : List Float). overlay (length out / 64) (take 64 run) out) (p ∙ w .1))
+    (ap₂ (λ (s : Sequencer) (c : Placings). record { sequencer = s; places = c }) (w .0) v, at-overlay-channels .overlay-channels .ensures ∙ ap (λ (run : List Float). overlay (length out / 64) (take 64 run) out) (p ∙ w .1))
 
 pub render-block-spec : {M : Type 1} → statement M
 render-block-spec =
