@@ -2,8 +2,8 @@
 use Prim.Native.Nat.{ℕ, zero, suc, _+_, _%_}
 use mathlib.Core.Path.{_≡_, refl}
 use mathlib.Core.Bool.{Bool, true, false, _&&_, _||_, cond}
-use mathlib.Core.List.{List, _++_}
-use lib.Dec.{eqb, ltb, leb}
+use mathlib.Core.List.{List, [], _∷_, _++_}
+use lib.Dec.{eqb, ltb}
 use lib.ListN.{length, drop}
 use lib.Ieee.{Float}
 use Rattle.listing.specs.Ascii.{ascii}
@@ -50,18 +50,23 @@ knownBy file at known = cond (eqb (field file at 4) format) (monoFloat file (at 
 abbrev pub nowhere : Place
 nowhere = record { from = 0; size = 0; known = false }
 
--- the chunk `data`, from a chunk at a place on; the format is known by the last chunk `fmt ` before it. Chunks that begin behind the first 65,536 bytes are not looked at.
+-- the chunk `data`, from a chunk at a place on; the format is known by the last chunk `fmt ` before it. A chunk whose first 8 bytes are not all at hand, or begin behind 65,536, is not looked at.
 unfoldable pub dataFrom : (turns : ℕ) → (file : List ℕ) → (at : ℕ) → (known : Bool) → Place
 unfolding knownBy
 dataFrom zero file at known = nowhere
 dataFrom (suc k) file at known =
     let size = field file (at + 4) 4 in
     let next = dataFrom k file (at + 8 + size + size % 2) (knownBy file at known) in
-    cond (leb (length file) at || ltb 65_536 at) nowhere (cond (eqb (field file at 4) data′) (record { from = at + 8; size = size; known = known }) next)
+    cond (ltb 65_536 at || ltb (length file) (at + 8)) nowhere (cond (eqb (field file at 4) data′) (record { from = at + 8; size = size; known = known }) next)
 
 unfoldable pub placeOf : (file : List ℕ) → Place
 unfolding dataFrom
 placeOf file = cond (eqb (field file 0 4) riff) (dataFrom (length file) file 12 false) (record { from = 0; size = 18_446_744_073_709_551_615; known = true })
+
+-- computed: a chunk `data` of 8 bytes; where its size is cut, it is not looked at
+pub cut-chunk : (placeOf (ascii "RIFF....WAVEdata" ++ (8 ∷ 0 ∷ 0 ∷ 0 ∷ [])) ≡ record { from = 20; size = 8; known = false }) × (placeOf (ascii "RIFF....WAVEdata" ++ (8 ∷ 0 ∷ [])) ≡ nowhere)
+unfolding placeOf dataFrom knownBy monoFloat field fromLittleEndian
+cut-chunk = (refl, refl)
 
 -- document 01's pool at the front of a pool that has room for its 4,096 samples
 unfoldable pub trailLoaded : (room : ℕ) → Loaded

@@ -82,10 +82,10 @@ fn find_samples(head: &[u8]) -> Place
     let mut turns = head.len();
     while turns > 0 {
         turns = turns - 1;
-        if head.len() <= at {
+        if 65536 < at {
             return nowhere();
         }
-        if 65536 < at {
+        if head.len() < at + 8 {
             return nowhere();
         }
         let name = fields::word32(head, at);

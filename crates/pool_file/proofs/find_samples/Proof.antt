@@ -33,7 +33,7 @@ returns-2 c =
     let s1 = c .before in
     let s2 = s1 .before in
     let s3 = s2 .before in
-    c .nowhere .ensures ∙ sym (behind _ _ _ _ (s1 .if2 .taken)) ∙ sym (turn _ _ _ _ (s2 .loop-test .taken)) ∙ s3 .loop .inv
+    c .nowhere .ensures ∙ sym (too-far _ _ _ _ (s1 .if2 .taken)) ∙ sym (turn _ _ _ _ (s2 .loop-test .taken)) ∙ s3 .loop .inv
 
 returns-3 : tie.Need-returns-3 Inv-loop μ-loop
 returns-3 c =
@@ -41,7 +41,7 @@ returns-3 c =
     let s2 = s1 .before in
     let s3 = s2 .before in
     let s4 = s3 .before in
-    c .nowhere2 .ensures ∙ sym (too-far _ _ _ _ (s2 .if2 .left) (s1 .if3 .taken)) ∙ sym (turn _ _ _ _ (s3 .loop-test .taken)) ∙ s4 .loop .inv
+    c .nowhere2 .ensures ∙ sym (behind _ _ _ _ (s2 .if2 .left) (s1 .if3 .taken)) ∙ sym (turn _ _ _ _ (s3 .loop-test .taken)) ∙ s4 .loop .inv
 
 returns-4 : tie.Need-returns-4 Inv-loop μ-loop
 returns-4 c =
@@ -79,6 +79,6 @@ pub find-samples-spec : {M : Type 1} → statement M
 find-samples-spec =
     tie.close
     (tie.spec Inv-loop μ-loop (λ c κs. search needs) returns loop-holds (λ c. search needs) (λ c κs. search needs) returns-2
-    (λ c κs. search needs) returns-3 (λ c κs. search needs) (λ c. search needs) (λ c κs. search needs) (λ c. search needs)
+    (λ c. search needs) (λ c κs. search needs) returns-3 (λ c κs. search needs) (λ c. search needs) (λ c κs. search needs) (λ c. search needs)
     (λ c. search needs) returns-4 (λ c κs. search needs) (λ c. search needs) (λ c. search needs) (λ c. search needs) loop-less loop-again
     (λ c κs. search needs) returns-5)
