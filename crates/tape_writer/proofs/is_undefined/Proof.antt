@@ -24,11 +24,17 @@ returns-4 c = simp (le-ltb _ _ (c .before .before .before .if1 .left), ne-eqb _ 
 
 returns-5 : tie.Need-returns-5
 unfolding undefinedBy
-returns-5 c = simp (le-ltb _ _ (c .before .before .before .before .before .before .if1 .left), ne-eqb _ _ (c .before .before .before .before .before .if2 .left), ne-eqb _ _ (c .before .before .before .before .if4 .left), sym (c .before .before .before .is-push .ensures) ∙ c .before .before .if5 .taken, lt-ltb _ _ (c .if6 .taken))
+returns-5 c =
+    let d = c .before .before in
+    let b = d .before .before in
+    simp (le-ltb _ _ (b .before .before .if1 .left), ne-eqb _ _ (b .before .if2 .left), ne-eqb _ _ (b .if4 .left), sym (d .before .is-push .ensures) ∙ d .if5 .taken, lt-ltb _ _ (c .if6 .taken))
 
 returns-6 : tie.Need-returns-6
 unfolding undefinedBy
-returns-6 c = simp (le-ltb _ _ (c .before .before .before .before .before .before .before .if1 .left), ne-eqb _ _ (c .before .before .before .before .before .before .if2 .left), ne-eqb _ _ (c .before .before .before .before .before .if4 .left), sym (c .before .before .before .before .is-push .ensures) ∙ c .before .before .before .if5 .taken, le-ltb _ _ (c .before .if6 .left))
+returns-6 c =
+    let d = c .before .before .before in
+    let b = d .before .before in
+    simp (le-ltb _ _ (b .before .before .if1 .left), ne-eqb _ _ (b .before .if2 .left), ne-eqb _ _ (b .if4 .left), sym (d .before .is-push .ensures) ∙ d .if5 .taken, le-ltb _ _ (c .before .if6 .left))
 
 returns-7 : tie.Need-returns-7
 unfolding undefinedBy

@@ -42,7 +42,10 @@ returns-2 c =
 
 returns-3 : tie.Need-returns-3
 unfolding bytesBy bodyParts
-returns-3 c = simp (sym (c .before .before .before .before .before .plain-kind .ensures), ne-eqb _ _ (c .before .before .before .before .if1 .left), le-ltb _ _ (c .before .before .before .if2 .left), lt-ltb _ _ (c .before .before .if3 .taken), c .before .f64-to-bits5 .ensures, c .f64-to-bits6 .ensures) (edit-joined _ _ _ _)
+returns-3 c =
+    let b = c .before .before .before .before in
+    simp (sym (b .before .plain-kind .ensures), ne-eqb _ _ (b .if1 .left), le-ltb _ _ (c .before .before .before .if2 .left), lt-ltb _ _ (c .before .before .if3 .taken), c .before .f64-to-bits5 .ensures, c .f64-to-bits6 .ensures)
+    (edit-joined _ _ _ _)
 
 returns-4 : tie.Need-returns-4
 unfolding bytesBy bodyParts
@@ -54,7 +57,10 @@ returns-5 c = simp (sym (c .before .before .before .before .before .before .plai
 
 returns-6 : tie.Need-returns-6
 unfolding bytesBy bodyParts
-returns-6 c = simp (sym (c .before .before .before .before .before .plain-kind .ensures), ne-eqb _ _ (c .before .before .before .before .if1 .left), le-ltb _ _ (c .before .before .before .if2 .left), le-ltb _ _ (c .before .before .if3 .left), ne-eqb _ _ (c .before .if4 .left), ne-eqb _ _ (c .if5 .left)) (bare-joined _)
+returns-6 c =
+    let d = c .before .before .before in
+    let b = d .before in
+    simp (sym (b .before .plain-kind .ensures), ne-eqb _ _ (b .if1 .left), le-ltb _ _ (d .if2 .left), le-ltb _ _ (c .before .before .if3 .left), ne-eqb _ _ (c .before .if4 .left), ne-eqb _ _ (c .if5 .left)) (bare-joined _)
 
 pub parts-of-spec : {M : Type 1} → statement M
 parts-of-spec =
