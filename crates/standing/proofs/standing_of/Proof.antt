@@ -14,11 +14,17 @@ returns-2 c = rw (sym (c .before .before .before .before .has .ensures) ∙ c .b
 
 returns-3 : tie.Need-returns-3
 unfolding standingIn
-returns-3 c = rw (sym (c .before .before .before .before .before .before .before .has .ensures) ∙ c .before .before .before .before .before .before .if1 .left, sym (c .before .before .before .before .has2 .ensures) ∙ c .before .before .before .if2 .left, sym (c .before .has3 .ensures) ∙ c .if3 .taken) refl
+returns-3 c =
+    let b = c .before .before .before in
+    let a = b .before .before .before in
+    rw (sym (a .before .has .ensures) ∙ a .if1 .left, sym (b .before .has2 .ensures) ∙ b .if2 .left, sym (c .before .has3 .ensures) ∙ c .if3 .taken) refl
 
 returns-4 : tie.Need-returns-4
 unfolding standingIn
-returns-4 c = rw (sym (c .before .before .before .before .before .before .before .has .ensures) ∙ c .before .before .before .before .before .before .if1 .left, sym (c .before .before .before .before .has2 .ensures) ∙ c .before .before .before .if2 .left, sym (c .before .has3 .ensures) ∙ c .if3 .left) refl
+returns-4 c =
+    let b = c .before .before .before in
+    let a = b .before .before .before in
+    rw (sym (a .before .has .ensures) ∙ a .if1 .left, sym (b .before .has2 .ensures) ∙ b .if2 .left, sym (c .before .has3 .ensures) ∙ c .if3 .left) refl
 
 pub standing-of-spec : {M : Type 1} → statement M
 standing-of-spec =
