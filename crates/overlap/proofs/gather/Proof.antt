@@ -18,7 +18,9 @@ use Rattle.overlap.proofs.gather.Statement.{statement}
 use Rattle.overlap.proofs.gather.Tie as tie
 
 abbrev Inv-loop : tie.InvT-loop
-Inv-loop from to starts₀ numbers₀ s waiting sounding held count₀ i₀ starts numbers count i = Sized s × Ends s waiting sounding held × (held ≤ 768) × (waiting ≤ 256) × (sounding ≤ waiting + 256) × (held ≤ sounding + 256) × (i ≤ held) × (length starts ≡ 768) × (length numbers ≡ 768) × Gathering (inStretch from to) (heldIn s) i count (pairs starts numbers)
+Inv-loop from to starts₀ numbers₀ s waiting sounding held count₀ i₀ starts numbers count i =
+    Sized s × Ends s waiting sounding held × (held ≤ 768) × (waiting ≤ 256) × (sounding ≤ waiting + 256) × (held ≤ sounding + 256) × (i ≤ held) ×
+    (length starts ≡ 768) × (length numbers ≡ 768) × Gathering (inStretch from to) (heldIn s) i count (pairs starts numbers)
 
 abbrev μ-loop : tie.MeasureT-loop
 μ-loop from to starts₀ numbers₀ s waiting sounding held count₀ i₀ starts numbers count i = held - i

@@ -16,7 +16,9 @@ use Rattle.overlap.proofs.sift_down.Statement.{statement}
 use Rattle.overlap.proofs.sift_down.Tie as tie
 
 abbrev Inv-loop : tie.InvT-loop
-Inv-loop starts₀ numbers₀ m start number i₀ starts numbers i = (i ≤ m) × (m < length starts) × (length starts ≡ length starts₀) × (length starts ≡ length numbers) × (length numbers ≡ length numbers₀) × Sinking keyLess noKey (pairs starts numbers) m i (start, number) (sink keyLess noKey m (pairs starts₀ numbers₀) m 0 (start, number))
+Inv-loop starts₀ numbers₀ m start number i₀ starts numbers i =
+    (i ≤ m) × (m < length starts) × (length starts ≡ length starts₀) × (length starts ≡ length numbers) × (length numbers ≡ length numbers₀) ×
+    Sinking keyLess noKey (pairs starts numbers) m i (start, number) (sink keyLess noKey m (pairs starts₀ numbers₀) m 0 (start, number))
 
 abbrev μ-loop : tie.MeasureT-loop
 μ-loop starts₀ numbers₀ m start number i₀ starts numbers i = m - i

@@ -14,7 +14,9 @@ use Rattle.overlap.proofs.sift_up.Statement.{statement}
 use Rattle.overlap.proofs.sift_up.Tie as tie
 
 abbrev Inv-loop : tie.InvT-loop
-Inv-loop starts₀ numbers₀ n start number i₀ starts numbers i = (i ≤ n) × (length starts ≡ length starts₀) × (length starts ≡ length numbers) × (length numbers ≡ length numbers₀) × Rising keyLess noKey (pairs starts numbers) i (start, number) (rise keyLess noKey n (pairs starts₀ numbers₀) n (start, number))
+Inv-loop starts₀ numbers₀ n start number i₀ starts numbers i =
+    (i ≤ n) × (length starts ≡ length starts₀) × (length starts ≡ length numbers) × (length numbers ≡ length numbers₀) ×
+    Rising keyLess noKey (pairs starts numbers) i (start, number) (rise keyLess noKey n (pairs starts₀ numbers₀) n (start, number))
 
 abbrev μ-loop : tie.MeasureT-loop
 μ-loop starts₀ numbers₀ n start number i₀ starts numbers i = i

@@ -34,7 +34,10 @@ returns-5 : tie.Need-returns-5 Inv-loop μ-loop
 returns-5 c = sym (too-much _ _ (c .if5 .taken)) ∙ sym (ap inRange (digit-read _ _ _ (c .before .before .before .before .loop-test .taken) (c .before .before .if3 .left) (c .before .if4 .left))) ∙ c .before .before .before .before .before .loop .inv .2
 
 loop-again : tie.Need-loop-again Inv-loop μ-loop
-loop-again c = (c .if5 .left, omega (arith, c .before .before .before .before .loop-test .taken), sym (ap inRange (digit-read _ _ _ (c .before .before .before .before .loop-test .taken) (c .before .before .if3 .left) (c .before .if4 .left))) ∙ c .before .before .before .before .before .loop .inv .2)
+loop-again c =
+    let t = c .before .before .before .before in
+    let d = digit-read _ _ _ (t .loop-test .taken) (c .before .before .if3 .left) (c .before .if4 .left) in
+    (c .if5 .left, omega (arith, t .loop-test .taken), sym (ap inRange d) ∙ t .before .loop .inv .2)
 
 returns-6 : tie.Need-returns-6 Inv-loop μ-loop
 returns-6 c = all-read _ _ _ (c .loop-test .left) (c .before .loop .inv .0) ∙ c .before .loop .inv .2

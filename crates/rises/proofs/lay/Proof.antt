@@ -23,7 +23,9 @@ kth-push-requires : tie.Need-kth-push-requires Inv-loop μ-loop
 kth-push-requires c κs = omega (arith, c .loop-test .taken)
 
 add-at : tie.Need-add-at Inv-loop μ-loop
-add-at c = record { fits = omega (arith, c .before .before .before .before .before .before .before .loop .inv .free, c .before .before .before .before .before .before .loop-test .taken, c .before .before .before .before .before .before .before .before .before .before .before .before .before .before .least .ensures) }
+add-at c =
+    let d = c .before .before .before .before .before .before in
+    record { fits = omega (arith, d .before .loop .inv .free, d .loop-test .taken, d .before .before .before .before .before .before .before .before .least .ensures) }
 
 loop-again : tie.Need-loop-again Inv-loop μ-loop
 loop-again c =
@@ -38,7 +40,9 @@ same-length : tie.Need-same-length Inv-loop μ-loop
 same-length c = same-long _ _ (c .before .before .before .before .before .before .before .if1 .left) _ (c .before .before .before .before .before .before .arguments-of .ensures) _ (c .before .before .before .before .write .ensures .1) (c .before .loop .inv)
 
 returns-2 : tie.Need-returns-2 Inv-loop μ-loop
-returns-2 c = all-laid _ _ (c .before .before .before .before .before .before .before .if1 .left) _ (c .before .before .before .before .before .before .arguments-of .ensures) _ (c .before .before .before .before .write .ensures .1) (c .before .loop .inv) (c .loop-test .left) _ (c .before .before .before .before .before .before .before .before .least .ensures)
+returns-2 c =
+    let d = c .before .before .before .before .before .before in
+    all-laid _ _ (d .before .if1 .left) _ (d .arguments-of .ensures) _ (c .before .before .before .before .write .ensures .1) (c .before .loop .inv) (c .loop-test .left) _ (d .before .before .least .ensures)
 
 pub lay-spec : {M : Type 1} → statement M
 lay-spec =
