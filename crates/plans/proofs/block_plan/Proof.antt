@@ -17,9 +17,11 @@ returns-2 : tie.Need-returns-2
 unfolding blockPlan
 returns-2 c =
     let d = c .before .before .before .before in
+    let a = d .before .before .before .args in
+    let t = a .clock in
     rw (← d .before .before .least .ensures, ← d .before .process-refusal .ensures, eq-eqb _ _ (d .if1 .left))
-    (c .step-plan .ensures ∙ ap (λ (x : Float). stepPlan (d .before .before .before .args .room) (stepOf false (d .before .before .before .args .size) (d .before .before .least .result) (d .before .before .before .args .clock .time +ᵈ d .before .before .before .args .clock .duration ×ᵈ x) (d .before .before .before .args .clock)))
-    (c .before .before .before .nearest-u64-to-f64 .ensures ∙ sym (whole-is (d .before .before .before .args .size))))
+    (c .step-plan .ensures ∙ ap (λ (x : Float). stepPlan (a .room) (stepOf false (a .size) (d .before .before .least .result) (t .time +ᵈ t .duration ×ᵈ x) t))
+    (c .before .before .before .nearest-u64-to-f64 .ensures ∙ sym (whole-is (a .size))))
 
 pub block-plan-spec : {M : Type 1} → statement M
 block-plan-spec =

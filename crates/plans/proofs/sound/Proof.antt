@@ -15,9 +15,11 @@ use Rattle.plans.proofs.sound.Tie as tie
 returns : tie.Need-returns
 returns c =
     let a = c .before .before .before .before .before .before .before .before .before .before .args in
+    let t = c .before .before .before .before .before .before .before .if1 .taken in
     let row = now (a .row) in (
-      c .advance .ensures ∙ ap (λ (e : Event). e .unit) (when (afterTick (a .event)) (afterBlock (spanIn (a .step)) (a .event)) (c .before .before .before .before .before .before .before .if1 .taken)),
-      c .before .before .before .before .add-first .ensures ∙ ap (λ (x : Float). set row 0 (getD row 0 zeroᶠ +ˢ x)) (c .before .before .before .before .before .before .tick-sample .ensures) ∙ when _ (channelAfter (now (a .pool)) (spanIn (a .step)) (a .event) row) (c .before .before .before .before .before .before .before .if1 .taken),
+      c .advance .ensures ∙ ap (λ (e : Event). e .unit) (when (afterTick (a .event)) (afterBlock (spanIn (a .step)) (a .event)) t),
+      c .before .before .before .before .add-first .ensures ∙ ap (λ (x : Float). set row 0 (getD row 0 zeroᶠ +ˢ x)) (c .before .before .before .before .before .before .tick-sample .ensures)
+          ∙ when _ (channelAfter (now (a .pool)) (spanIn (a .step)) (a .event) row) t,
     )
 
 returns-2 : tie.Need-returns-2

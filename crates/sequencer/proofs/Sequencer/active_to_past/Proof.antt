@@ -19,10 +19,14 @@ unfolding activeToPast
 loop-holds c = record { fuel = c .args .t1 .«active_len»; enough = omega arith; gives = refl }
 
 loop-again : tie.Need-loop-again Inv-loop μ-loop
-loop-again c = finishing-room _ _ _ _ (c .before .before .before .before .before .before .before .loop-test .taken) (c .before .before .before .before .before .before .if1 .left) (c .before .before .before .if2 .taken) (c .if3 .taken) (c .before .before .before .before .before .before .before .before .loop .inv)
+loop-again c =
+    let d = c .before .before .before .before .before .before in
+    finishing-room _ _ _ _ (d .before .loop-test .taken) (d .if1 .left) (c .before .before .before .if2 .taken) (c .if3 .taken) (d .before .before .loop .inv)
 
 loop-again-2 : tie.Need-loop-again-2 Inv-loop μ-loop
-loop-again-2 c = finishing-full _ _ _ _ (c .before .before .before .before .before .before .before .loop-test .taken) (c .before .before .before .before .before .before .if1 .left) (c .before .before .before .if2 .taken) (c .if3 .left) (c .before .before .before .before .before .before .before .before .loop .inv)
+loop-again-2 c =
+    let d = c .before .before .before .before .before .before in
+    finishing-full _ _ _ _ (d .before .loop-test .taken) (d .if1 .left) (c .before .before .before .if2 .taken) (c .if3 .left) (d .before .before .loop .inv)
 
 loop-again-3 : tie.Need-loop-again-3 Inv-loop μ-loop
 loop-again-3 c = finishing-on _ _ _ _ (c .before .before .before .before .loop-test .taken) (c .before .before .before .if1 .left) (c .if2 .left) (c .before .before .before .before .before .loop .inv)

@@ -36,7 +36,9 @@ returns-2 : tie.Need-returns-2
 unfolding ofBits neg div
 returns-2 c =
     let n = c .before .before .before in
-    reset-none (c .before .before .before .before .before .before .before .before .args .self) (n .before .before .least .ensures) (n .before .least2 .ensures) (n .least3 .ensures) (c .before .before .wrapping-add-u64 .ensures) (c .cleared-edits .ensures) (c .before .before .before .before .before .before .enum-told2 .given .1)
+    let k = n .before .before .before in
+    reset-none (k .before .before .args .self) (n .before .before .least .ensures) (n .before .least2 .ensures) (n .least3 .ensures)
+    (c .before .before .wrapping-add-u64 .ensures) (c .cleared-edits .ensures) (k .enum-told2 .given .1)
 
 pub reset-spec : {M : Type 1} → statement M
 reset-spec =
