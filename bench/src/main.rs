@@ -281,13 +281,8 @@ fn peak(window: usize, runs: bool, samples: &[f32]) {
 }
 
 /// Blocks or ticks with n events sounding. Both sides make their engine anew for each turn, untimed.
-fn engine(block: bool, joined: bool, n: u64, faded: bool, channels: usize, pool: &Arc<[f32]>) {
-    let call = match (block, joined) {
-        (true, false) => "render_block",
-        (true, true) => "process",
-        (false, false) => "render_tick",
-        (false, true) => "tick",
-    };
+fn engine(block: bool, n: u64, faded: bool, channels: usize, pool: &Arc<[f32]>) {
+    let call = if block { "process" } else { "tick" };
     let sounding = match (n, faded) {
         (0, _) => "idle".to_string(),
         (_, false) => format!("{n} sounding"),
@@ -297,8 +292,8 @@ fn engine(block: bool, joined: bool, n: u64, faded: bool, channels: usize, pool:
     let fade = if faded { 1000.0 } else { 0.0 };
     let length = if block { 64 * channels } else { channels };
     let ours = |rounds, out: &mut [f32]| match block {
-        true => port::blocks(channels, n, fade, rounds, joined, pool, out),
-        false => port::ticks(channels, n, fade, rounds, joined, pool, out),
+        true => port::blocks(channels, n, fade, rounds, pool, out),
+        false => port::ticks(channels, n, fade, rounds, pool, out),
     };
     let theirs = |rounds, out: &mut [f32]| match block {
         true => rust::blocks(channels, n, fade, rounds, pool, out),
@@ -439,19 +434,17 @@ fn main() {
         peak(window, false, &noise);
         peak(window, true, &noise);
     }
-    for (block, joined, what) in [
-        (true, false, "blocks of 64, engine alone, ns a block"),
-        (true, true, "blocks of 64, with the checks, ns a block"),
-        (false, false, "ticks, engine alone, ns a tick"),
-        (false, true, "ticks, with the checks, ns a tick"),
+    for (block, what) in [
+        (true, "blocks of 64, ns a block"),
+        (false, "ticks, ns a tick"),
     ] {
         head(what);
         for channels in [1, 8] {
-            engine(block, joined, 0, false, channels, &pool);
+            engine(block, 0, false, channels, &pool);
             for n in [1, 8, 64, 256] {
                 if block || n < 256 {
-                    engine(block, joined, n, false, channels, &pool);
-                    engine(block, joined, n, true, channels, &pool);
+                    engine(block, n, false, channels, &pool);
+                    engine(block, n, true, channels, &pool);
                 }
             }
         }

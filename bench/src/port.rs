@@ -56,7 +56,6 @@ mod raw {
             n: u64,
             fade: f64,
             rounds: u64,
-            joined: bool,
             pool: *const f32,
             k: usize,
             out: *mut f32,
@@ -67,7 +66,6 @@ mod raw {
             n: u64,
             fade: f64,
             rounds: u64,
-            joined: bool,
             pool: *const f32,
             k: usize,
             out: *mut f32,
@@ -150,25 +148,12 @@ pub fn blocks(
     n: u64,
     fade: f64,
     rounds: u64,
-    joined: bool,
     pool: &[f32],
     out: &mut [f32],
 ) -> u64 {
     assert_eq!(out.len(), 64 * channels);
     let (p, o) = (pool.as_ptr(), out.as_mut_ptr());
-    unsafe {
-        raw::port_blocks(
-            channels,
-            n,
-            fade,
-            rounds,
-            joined,
-            p,
-            pool.len(),
-            o,
-            out.len(),
-        )
-    }
+    unsafe { raw::port_blocks(channels, n, fade, rounds, p, pool.len(), o, out.len()) }
 }
 
 pub fn ticks(
@@ -176,23 +161,10 @@ pub fn ticks(
     n: u64,
     fade: f64,
     rounds: u64,
-    joined: bool,
     pool: &[f32],
     out: &mut [f32],
 ) -> u64 {
     assert_eq!(out.len(), channels);
     let (p, o) = (pool.as_ptr(), out.as_mut_ptr());
-    unsafe {
-        raw::port_ticks(
-            channels,
-            n,
-            fade,
-            rounds,
-            joined,
-            p,
-            pool.len(),
-            o,
-            out.len(),
-        )
-    }
+    unsafe { raw::port_ticks(channels, n, fade, rounds, p, pool.len(), o, out.len()) }
 }

@@ -38,7 +38,7 @@ use Rattle.sequencer.specs.Edits.{indexOf, changedBy, changed}
 use Rattle.sequencer.specs.Resets.{rewinds, emptiedLists, resetBy, resets}
 use Rattle.sequencer.specs.Turns.{Activating, activated-none, activated-beyond, activated-late, Taking, taking-missing, taking-stored, Finishing, finishing-on, finishing-room, finishing-full, filledByLast, finished-end, finished-beyond}
 use Rattle.mixing.specs.Placed.{source-moves}
-use Rattle.sequencer.specs.Steady.{withValue, withPlace, sourceStoredAt, Passing, passing-stored}
+use Rattle.sequencer.specs.Passing.{withValue, withPlace, sourceStoredAt, Passing, passing-stored}
 use Rattle.plans.specs.declared.Step.{Step}
 use Rattle.plans.specs.declared.Requeue.{Requeue}
 use Rattle.plans.specs.Plans.{startsBefore, countedPlaces, lesserChild, isWithin, rewoundPlaces, allGone, afterPlace}

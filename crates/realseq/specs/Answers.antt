@@ -4,6 +4,8 @@ use mathlib.Core.Path.{_≡_, refl}
 use Rattle.event.specs.declared.Placings.{Placings}
 use Rattle.desk.specs.Desk as Desk
 use Rattle.desk.specs.Desk.{number, queued, done, rendered, refused}
+use Rattle.sequencer.specs.declared.Answer as Engine
+use Rattle.sequencer.specs.declared.Answer.the-variants as Engines
 use Rattle.realseq.specs.declared.SequencerBackend.{SequencerBackend}
 use Rattle.realseq.specs.declared.Outcome.{Outcome}
 use Rattle.realseq.specs.declared.Answer.{Answer}
@@ -29,6 +31,16 @@ read-back queued = refl
 read-back done = refl
 read-back (rendered c) = refl
 read-back (refused k) = refl
+
+-- the engine's answer as the desk tells it: not what became of an edit
+unfoldable pub asDesk : Engine.Answer → Answer
+asDesk (Engines.Number k) = Number k
+asDesk Engines.Applied = Done
+asDesk Engines.Past = Done
+asDesk Engines.Stored = Done
+asDesk Engines.Done = Done
+asDesk (Engines.Rendered c) = Rendered c
+asDesk (Engines.Refused k) = Refused k
 
 abbrev pub accepts : SequencerBackend → Outcome
 accepts d = record { backend = d; answer = said done }

@@ -1,7 +1,8 @@
 // The calls of the back. Refusals are judged before the messages are handled; a refused call handles none.
 ghost use mathlib.Core.Path.{_≡_};
 ghost use lib.ListN.{length};
-ghost use Rattle.realseq.specs.Backs.{ticks, tickOuts, blocks, blockOuts, rates};
+ghost use Rattle.realseq.specs.Answers.{asDesk};
+ghost use Rattle.realseq.specs.Backs.{stepped, steppedOut, ticks, tickOuts, blocks, blockOuts, rates};
 use crate::Answer;
 use crate::Outcome;
 use crate::SequencerBackend;
@@ -9,8 +10,41 @@ use event::MixOrder;
 use refusals::process_refusal;
 use refusals::rate_refusal;
 use refusals::tick_refusal;
+use sequencer::StepKind;
+
+// The engine's answer as the desk tells it: not what became of an edit.
+fn as_desk(answer: sequencer::Answer) -> Answer
+    ensures { λ r. ⌜ r ≡ asDesk answer ⌝ }
+{
+    match answer {
+        sequencer::Answer::Number(id) => Answer::Number(id),
+        sequencer::Answer::Applied => Answer::Done,
+        sequencer::Answer::Past => Answer::Done,
+        sequencer::Answer::Stored => Answer::Done,
+        sequencer::Answer::Done => Answer::Done,
+        sequencer::Answer::Rendered(places) => Answer::Rendered(places),
+        sequencer::Answer::Refused(no) => Answer::Refused(no),
+    }
+}
 
 impl SequencerBackend {
+    // A tick or a block, unchecked: messages are handled before it, and in mode None the finished are returned after it.
+    fn step(self, order: MixOrder, step: StepKind, pool: &[f32], out: &mut [f32]) -> Outcome
+        ensures { λ r. ⌜ (r ≡ stepped order (now (pool .entry)) step self) × (now (out .exit) ≡ steppedOut order (now (pool .entry)) step self (now (out .entry))) ⌝ }
+    {
+        let mut d = self.drain();
+        let s = d.sequencer;
+        let r = s.render(order, step, pool, out);
+        let s = r.sequencer;
+        let answer = r.answer;
+        d.sequencer = s;
+        d = d.send_back_past();
+        Outcome {
+            backend: d,
+            answer: as_desk(answer),
+        }
+    }
+
     pub fn tick(self, order: MixOrder, pool: &[f32], out: &mut [f32]) -> Outcome
         ensures { λ r. ⌜ (r ≡ ticks order (now (pool .entry)) (length (now (out .entry))) self) × (now (out .exit) ≡ tickOuts order (now (pool .entry)) self (now (out .entry))) ⌝ }
     {
@@ -22,15 +56,7 @@ impl SequencerBackend {
                 answer: Answer::Refused(no),
             };
         }
-        let mut d = self.drain();
-        let s = d.sequencer;
-        let s = s.render_tick(order, pool, out);
-        d.sequencer = s;
-        d = d.send_back_past();
-        Outcome {
-            backend: d,
-            answer: Answer::Done,
-        }
+        self.step(order, StepKind::Tick, pool, out)
     }
 
     pub fn process(self, order: MixOrder, size: usize, pool: &[f32], out: &mut [f32]) -> Outcome
@@ -44,17 +70,7 @@ impl SequencerBackend {
                 answer: Answer::Refused(no),
             };
         }
-        let mut d = self.drain();
-        let s = d.sequencer;
-        let r = s.render_block(order, size, pool, out);
-        let s = r.sequencer;
-        let places = r.places;
-        d.sequencer = s;
-        d = d.send_back_past();
-        Outcome {
-            backend: d,
-            answer: Answer::Rendered(places),
-        }
+        self.step(order, StepKind::Block(size), pool, out)
     }
 
     pub fn set_sample_rate(self, rate: f64) -> Outcome

@@ -9,5 +9,5 @@ pub mod Rises
 pub mod Edits
 pub mod Resets
 pub mod Rendering
-pub mod Steady
+pub mod Passing
 pub mod Readers

@@ -1,41 +1,29 @@
 -- Ticks and blocks, on every engine.
-use mathlib.Core.Bool.{Bool, true, false, not, _&&_, _||_, cond}
+use mathlib.Core.Bool.{true, false, cond}
 use mathlib.Core.List.{List}
-use Prim.Native.Nat.{ℕ, zero, suc, _+_, _/_, min}
-use lib.Dec.{ltb, eqb}
-use lib.Ieee.{Float, lt, add, mul}
+use Prim.Native.Nat.{ℕ, zero, suc, _/_, min}
+use lib.Dec.{eqb}
+use lib.Ieee.{Float}
 use lib.ListN.{getD, set, length, replicate, take}
 use Rattle.event.specs.declared.Event.{Event}
 use Rattle.event.specs.declared.MixOrder.{MixOrder}
 use Rattle.event.specs.declared.MixOrder.the-variants.{Forward, Backward}
-use Rattle.event.specs.declared.ReplayMode.{ReplayMode}
-use Rattle.event.specs.declared.ReplayMode.the-variants.{All, None}
 use Rattle.event.specs.declared.Placings.{Placings}
 use Rattle.event.specs.Events.{blank}
 use Rattle.event.specs.Placings.{noPlacings, addAll}
-use Rattle.floats.specs.Arithmetic.{_+ᵈ_, _×ᵈ_, _+ˢ_, _<ᶠ_, zeroᶠ, whole}
+use Rattle.floats.specs.Arithmetic.{_+ᵈ_, _×ᵈ_, _+ˢ_, zeroᶠ, whole}
 use Rattle.ledger.specs.TickSamples.{tickSample, afterTick}
-use Rattle.ledger.specs.BlockSamples as Block
-use Rattle.ledger.specs.BlockSamples.{channelAfter, afterBlock, overlay}
+use Rattle.ledger.specs.BlockSamples.{Span, channelAfter, afterBlock, overlay}
 use Rattle.ledger.specs.Places.{eventPlacings}
 use Rattle.mixing.specs.Blocks.{clearedPlaces}
 use Rattle.sequencer.specs.declared.Sequencer.{Sequencer}
 use Rattle.sequencer.specs.declared.Outcome.{Outcome}
-use Rattle.sequencer.specs.declared.Rendered.{Rendered}
+use Rattle.sequencer.specs.declared.StepKind.{StepKind}
+use Rattle.sequencer.specs.declared.StepKind.the-variants.{Tick, Block}
 use Rattle.sequencer.specs.Parts.{withSounding}
 use Rattle.sequencer.specs.Moves.{advanced}
 use Rattle.refusals.specs.Refusals.{tickRefusal, processRefusal}
 use Rattle.sequencer.specs.Answers.{accepts, renders, refuses}
-
--- ---- whether a list changes at the beginning
-
-unfoldable pub releases : ReplayMode → (past : ℕ) → Bool
-releases All n = false
-releases None n = ltb 0 n
-
-unfoldable pub listsChange : (ends : Bool) → ReplayMode → (past ready : ℕ) → (start threshold : Float) → Bool
-unfolding releases
-listsChange ends m past ready start θ = ends || ((not (eqb ready 0) && start <ᶠ θ) || releases m past)
 
 -- ---- a pass over an array: each element in turn is replaced by `next` of it, and added to a sum. i have been passed and f are left; the next is at place i, or of the places left the last.
 
@@ -93,21 +81,21 @@ abbrev pub blockEnd : Sequencer → (n : ℕ) → Float
 blockEnd s n = s .time +ᵈ s .«sample_duration» ×ᵈ whole n
 
 -- of a size above 64, 64 count
-abbrev pub spanOf : Sequencer → (n : ℕ) → Block.Span
+abbrev pub spanOf : Sequencer → (n : ℕ) → Span
 spanOf s n = record { size = min 64 n; clock = s .time; upto = blockEnd s n; rate = s .«sample_rate»; duration = s .«sample_duration» }
 
-abbrev pub addBlock : (pool : List Float) → Block.Span → (channel : List Float) → Event → List Float
+abbrev pub addBlock : (pool : List Float) → Span → (channel : List Float) → Event → List Float
 addBlock pool b channel e = channelAfter pool b e channel
 
-unfoldable pub blockPass : MixOrder → (pool : List Float) → Block.Span → (n : ℕ) → Sequencer → Passed Event (List Float)
+unfoldable pub blockPass : MixOrder → (pool : List Float) → Span → (n : ℕ) → Sequencer → Passed Event (List Float)
 unfolding passes
 blockPass order pool b n a = passes (afterBlock b) (addBlock pool b) blank order (min (a .«active_len») 256) (a .active) 0 (replicate (clearedPlaces n) zeroᶠ)
 
 -- how the places of every active event came
-abbrev pub addPlaces : Block.Span → Placings → Event → Placings
+abbrev pub addPlaces : Span → Placings → Event → Placings
 addPlaces b c e = addAll c (eventPlacings b e)
 
-unfoldable pub placesPass : MixOrder → Block.Span → Sequencer → Passed Event Placings
+unfoldable pub placesPass : MixOrder → Span → Sequencer → Passed Event Placings
 unfolding passes
 placesPass order b a = passes (afterBlock b) (addPlaces b) blank order (min (a .«active_len») 256) (a .active) 0 noPlacings
 
@@ -120,9 +108,6 @@ unfolding blockPass advanced
 renderedBlock order pool n s =
     let a = advanced s (blockEnd s n) in
     withSounding a (blockPass order pool (spanOf s n) n a .items)
-
-abbrev pub renderedWith : MixOrder → (pool : List Float) → (n : ℕ) → Sequencer → Rendered
-renderedWith order pool n s = record { sequencer = renderedBlock order pool n s; places = renderedPlaces order n s }
 
 unfoldable pub renderedBlockOut : MixOrder → (pool : List Float) → (n : ℕ) → Sequencer → (out : List Float) → List Float
 unfolding blockPass advanced
@@ -137,3 +122,20 @@ blocks order pool n len s =
 unfoldable pub blockOuts : MixOrder → (pool : List Float) → (n : ℕ) → Sequencer → (out : List Float) → List Float
 unfolding processRefusal renderedBlockOut
 blockOuts order pool n s out = cond (eqb (processRefusal n (length out) (s .outputs) (s .time) (s .«sample_duration»)) 0) (renderedBlockOut order pool n s out) out
+
+-- ---- either
+
+-- the clock at the end of a step that begins at t
+unfoldable pub stepEnd : StepKind → (t d : Float) → Float
+stepEnd Tick t d = t +ᵈ d
+stepEnd (Block n) t d = t +ᵈ d ×ᵈ whole n
+
+unfoldable pub renderedStep : MixOrder → (pool : List Float) → StepKind → Sequencer → Outcome
+unfolding renderedTick renderedBlock renderedPlaces
+renderedStep order pool Tick s = accepts (renderedTick order pool s)
+renderedStep order pool (Block n) s = renders (renderedBlock order pool n s) (renderedPlaces order n s)
+
+unfoldable pub renderedStepOut : MixOrder → (pool : List Float) → StepKind → Sequencer → (out : List Float) → List Float
+unfolding renderedTickOut renderedBlockOut
+renderedStepOut order pool Tick s out = renderedTickOut order pool s out
+renderedStepOut order pool (Block n) s out = renderedBlockOut order pool n s out

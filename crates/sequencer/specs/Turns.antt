@@ -12,7 +12,10 @@ use lib.ListN.{getD, set}
 use Rattle.event.specs.declared.Event.{Event}
 use Rattle.event.specs.declared.EventId.{EventId}
 use Rattle.event.specs.declared.Edit.{Edit}
+use Rattle.event.specs.declared.ReplayMode.{ReplayMode}
+use Rattle.event.specs.declared.ReplayMode.the-variants.{All, None}
 use Rattle.event.specs.Events.{blank, editedBy, rewound}
+use Rattle.floats.specs.Arithmetic.{_+ᵈ_, _-ᵈ_, _×ᵈ_, halfᶠ}
 use Rattle.ready.specs.Waiting.{popped}
 use Rattle.lists.specs.Search.{seek}
 use Rattle.lists.specs.Index.{noId}
@@ -22,8 +25,8 @@ use Rattle.lists.specs.declared.FoundEdit.{FoundEdit}
 use Rattle.lists.specs.declared.FoundEdit.the-variants.{Stored, Missing}
 use Rattle.lists.specs.Edits.{noEdit, isEdit, placed, foundAt, foundEdit, removed}
 use Rattle.sequencer.specs.declared.Sequencer.{Sequencer}
-use Rattle.sequencer.specs.Parts.{withReady, withActive, withPast, withEdits}
-use Rattle.sequencer.specs.Moves.{pushedReady, poppedReady, pushedActive, swapRemoved, pushedPast, activated, activatedBy, activates, finishes, heldAt, toReady, allToReady}
+use Rattle.sequencer.specs.Parts.{withReady, withActive, withPast, withEdits, withTimes, withLetGo}
+use Rattle.sequencer.specs.Moves.{pushedReady, poppedReady, pushedActive, swapRemoved, pushedPast, activated, activatedBy, activates, readyToActive, finishes, activeToPast, goneBy, keptBy, releasedPast, advanced, heldAt, toReady, allToReady}
 use Rattle.sequencer.specs.Resets.{rewinds}
 
 cond-same : {A B : Type 0} (f : A → B) (b : Bool) (x y : A) → f x ≡ f y → f (cond b x y) ≡ f y
@@ -222,6 +225,24 @@ module _ (limit : Float) (s : Sequencer) (i : ℕ) (r : Sequencer) where
   pub finishing-full : i < s .«active_len» → s .«active_len» ≤ 256 → le (getD (s .active) i blank .«end_time») limit ≡ true → 256 ≤ s .«past_len» → Finishing limit s i r
       → Finishing limit (filledByLast s i) i r
   finishing-full p q h k w = subst (λ (x : Sequencer). Finishing limit x i r) (moved-out s i (getD (s .active) i blank) p q k) (finishing-off p q h w)
+
+-- ---- the beginning of a tick or a block
+
+released : (s : Sequencer) (m : ReplayMode) → withPast (withLetGo s (goneBy m (s .«let_go») (s .«past_len»))) (s .past) (keptBy m (s .«past_len»)) ≡ releasedPast s m
+unfolding goneBy keptBy releasedPast
+released s All = refl
+released s None = refl
+
+-- a is the engine once those that start have started, and b once those that end have ended; g were let go, and k are still finished
+pub advanced-by : (s : Sequencer) {a b : Sequencer} {g k : ℕ} {e : Float} → g ≡ goneBy (s .mode) (s .«let_go») (s .«past_len») → k ≡ keptBy (s .mode) (s .«past_len»)
+    → a ≡ readyToActive (withTimes (withPast (withLetGo s g) (s .past) k) (s .time) (e -ᵈ s .«sample_duration» ×ᵈ halfᶠ))
+    → b ≡ activeToPast a (s .time +ᵈ halfᶠ ×ᵈ s .«sample_duration») → withTimes b e (b .«active_threshold») ≡ advanced s e
+unfolding advanced
+advanced-by s {a} {b} {g} {k} {e} p q h r =
+    ap (λ (x : Sequencer). withTimes x e (x .«active_threshold»))
+    (r ∙ ap (λ (x : Sequencer). activeToPast x (s .time +ᵈ halfᶠ ×ᵈ s .«sample_duration»))
+    (h ∙ ap (λ (x : Sequencer). readyToActive (withTimes x (x .time) (e -ᵈ s .«sample_duration» ×ᵈ halfᶠ)))
+    (ap₂ (λ (i j : ℕ). withPast (withLetGo s i) (s .past) j) p q ∙ released s (s .mode))))
 
 -- ---- everything waits again
 

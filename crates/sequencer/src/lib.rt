@@ -1,7 +1,7 @@
 // The sequencer: `Sequencer` of src/sequencer.rs of fundsp, state in, state out.
 // The interface is creation, pushes, edits, `tick`, `process`, `set_sample_rate`, `reset`, and the readers `time`, `counts` and `place`: crate claim speaks of every list of these calls.
-// A call that can be refused has three functions: one tells the refusal from a few numbers (crate refusals), one carries the call out unchecked and returns the engine alone, and one joins both. The unchecked ones (`push_event`,
-// `push_relative_event`, `change`, `change_rate`, `render_tick`, `render_block`, `release_past`) are public for the desk, crate realseq, alone.
+// A call that can be refused has three functions: one tells the refusal from a few numbers (crate refusals), one carries the call out unchecked, and one joins both. The unchecked ones (`push_event`,
+// `push_relative_event`, `change`, `change_rate`, `render`, `release_past`) are public for the desk, crate realseq, alone.
 // A count above 256 is corrupt: no call reads or writes past an array, and what it does then is what its definition says.
 mod creation;
 mod edits;
@@ -63,14 +63,8 @@ pub struct Pushed {
     pub rise: usize,
 }
 
-// An engine that an event has entered, and how many levels the event rose.
-pub(crate) struct Entered {
-    sequencer: Sequencer,
-    rise: usize,
-}
-
-// An engine after a block, and how the block's places came.
-pub struct Rendered {
-    pub sequencer: Sequencer,
-    pub places: Placings,
+// A step of the clock: a tick, or a block of so many samples.
+pub enum StepKind {
+    Tick,
+    Block(usize),
 }

@@ -14,7 +14,7 @@ use Rattle.sequencer.specs.Edits.{indexOf}
 use Rattle.sequencer.specs.Moves.{readyToActive, activeToPast, toReady}
 use Rattle.sequencer.specs.Rounds.{RisingIn, SinkingIn}
 use Rattle.sequencer.specs.Turns.{Activating, Finishing, Readying, Rewinding}
-use Rattle.sequencer.specs.Steady.{Passing}
+use Rattle.sequencer.specs.Passing.{Passing}
 use Rattle.plans.specs.Sounding.{soundedEvent, soundedRow}
 use Rattle.player.proofs.Rolling.{Rolling}
 use Rattle.player.proofs.run.Tie as tie

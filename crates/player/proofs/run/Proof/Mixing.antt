@@ -14,7 +14,7 @@ use Rattle.event.specs.Events.{blank}
 use Rattle.floats.specs.Arithmetic.{zeroᶠ}
 use Rattle.mixing.specs.Blocks.{clearedPlaces}
 use Rattle.sequencer.specs.Parts.{withEdits, withTimes}
-use Rattle.sequencer.specs.Steady.{passing-start, passing-end}
+use Rattle.sequencer.specs.Passing.{passing-start, passing-end}
 use Rattle.plans.specs.declared.Plan.the-variants.{Render}
 use Rattle.plans.specs.declared.Step.{Step}
 use Rattle.plans.specs.Sounding.{soundedRow}

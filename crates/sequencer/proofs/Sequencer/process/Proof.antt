@@ -1,7 +1,7 @@
 -- `sequencer::Sequencer::process` meets its contract. Assumes nothing.
 use borrow.Author.Needs.{needs}
 use borrow.Author.Tests.{eq-eqb, ne-eqb}
-use Rattle.sequencer.specs.Rendering.{blocks, blockOuts}
+use Rattle.sequencer.specs.Rendering.{blocks, blockOuts, renderedStep, renderedStepOut}
 use Rattle.sequencer.proofs.Sequencer.process.Statement.{statement}
 use Rattle.sequencer.proofs.Sequencer.process.Tie as tie
 
@@ -10,11 +10,11 @@ unfolding blocks blockOuts
 returns c = (rw (← c .before .process-refusal .ensures, ne-eqb _ 0 (c .if1 .taken)), rw (← c .before .process-refusal .ensures, ne-eqb _ 0 (c .if1 .taken)))
 
 returns-2 : tie.Need-returns-2
-unfolding blocks blockOuts
+unfolding blocks blockOuts renderedStep renderedStepOut
 returns-2 c =
-    let d = c .before .before .before .before .before .before in
-    let r = c .before .before .before .before .render-block .ensures in
-    (rw (← d .before .process-refusal .ensures, eq-eqb _ 0 (d .if1 .left), r .0), rw (← d .before .process-refusal .ensures, eq-eqb _ 0 (d .if1 .left)) (r .1))
+    let d = c .before .before .before .before in
+    let r = c .before .before .render .ensures in
+    (rw (← d .before .process-refusal .ensures, eq-eqb _ 0 (d .if1 .left)) (r .0), rw (← d .before .process-refusal .ensures, eq-eqb _ 0 (d .if1 .left)) (r .1))
 
 pub process-spec : {M : Type 1} → statement M
 process-spec =

@@ -12,14 +12,11 @@ use Rattle.event.specs.declared.Source.{Source}
 use Rattle.event.specs.Events.{newEvent}
 use Rattle.refusals.specs.Refusals.{pushRefusal}
 use Rattle.sequencer.specs.declared.Sequencer.{Sequencer}
-use Rattle.sequencer.specs.declared.Entered.{Entered}
 use Rattle.sequencer.specs.declared.Pushed.{Pushed}
 use Rattle.sequencer.specs.declared.Answer.the-variants.{Number}
 use Rattle.sequencer.specs.Answers.{refuses}
-use Rattle.sequencer.specs.Parts.{withNext}
-use Rattle.sequencer.specs.Moves.{pushedEvent}
 use Rattle.sequencer.specs.Pushes.{pushesTo, admitted}
-use Rattle.sequencer.specs.Rises.{withRise, riseOf, riseTo}
+use Rattle.sequencer.specs.Rises.{withRise, entered, riseTo}
 use Rattle.sequencer.proofs.Sequencer.push_to.Statement.{statement}
 use Rattle.sequencer.proofs.Sequencer.push_to.Tie as tie
 
@@ -29,10 +26,6 @@ module _ (s : Sequencer) (start end lasts from until : Float) (curve : Fade) (fa
 
   abbrev Told : Type 0
   Told = no ≡ pushRefusal start end lasts fade-in fade-out source gain n (s .next)
-
-  -- what is returned, by the engine that the event has entered, its rise and the next number
-  abbrev given : (t : Entered) (next : ℕ) → Pushed
-  given t next = record { sequencer = withNext (t .sequencer) next; answer = Number (record { 0 = s .next }); rise = t .rise }
 
   abbrev told : Pushed
   told = withRise (pushesTo s start end lasts from until curve fade-in fade-out source gain) (riseTo s start end lasts from until curve fade-in fade-out source gain)
@@ -44,20 +37,20 @@ module _ (s : Sequencer) (start end lasts from until : Float) (curve : Fade) (fa
   unfolding pushesTo riseTo
   refused h q z = rw (← refusal-is h q, z)
 
-  accepted : Held → Told → no ≡ 0 → (e : Event) (t : Entered) (next : ℕ) → e ≡ newEvent from until fade-in fade-out curve source gain (s .next) → next ≡ (s .next + 1) % 2 ^ 64
-      → t ≡ record { sequencer = pushedEvent s e; rise = riseOf s e } → given t next ≡ told
+  accepted : Held → Told → no ≡ 0 → (e : Event) (p : Pushed) (next : ℕ) → e ≡ newEvent from until fade-in fade-out curve source gain (s .next) → next ≡ (s .next + 1) % 2 ^ 64
+      → p ≡ entered s e (Number (record { 0 = s .next })) next → p ≡ told
   unfolding pushesTo admitted riseTo
-  accepted h q z e t next he hn ht =
+  accepted h q z e p next he hn hp =
       rw (eq-eqb _ 0 (sym (refusal-is h q) ∙ z))
-      (ap₂ given (ht ∙ ap (λ (e : Event). record { sequencer = pushedEvent s e; rise = riseOf s e }) he) hn)
+      (hp ∙ ap₂ (λ (x : Event) (n : ℕ). entered s x (Number (record { 0 = s .next })) n) he hn)
 
 returns : tie.Need-returns
 returns c = refused _ _ _ _ _ _ _ _ _ _ _ _ _ (c .before .before .held .ensures) (c .before .push-refusal .ensures) (ne-eqb _ _ (c .if1 .taken))
 
 returns-2 : tie.Need-returns-2
 returns-2 c =
-    accepted _ _ _ _ _ _ _ _ _ _ _ _ _ (c .before .before .before .before .before .before .held .ensures) (c .before .before .before .before .before .push-refusal .ensures) (c .before .before .before .before .if1 .left)
-    _ _ _ (c .before .before .new .ensures) (c .before .before .before .wrapping-add-u64 .ensures) (c .before .enter .ensures)
+    accepted _ _ _ _ _ _ _ _ _ _ _ _ _ (c .before .before .before .before .before .held .ensures) (c .before .before .before .before .push-refusal .ensures) (c .before .before .before .if1 .left)
+    _ _ _ (c .before .new .ensures) (c .before .before .wrapping-add-u64 .ensures) (c .enter .ensures)
 
 pub push-to-spec : {M : Type 1} → statement M
 push-to-spec = tie.close (tie.spec (λ c κs. search needs) (λ c κs. search needs) returns (λ c κs. search needs) (λ c κs. search needs) (λ c κs. search needs) returns-2)
