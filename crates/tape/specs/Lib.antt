@@ -4,5 +4,6 @@ pub mod Example
 pub mod Pool
 pub mod Window
 pub mod Kinds
+pub mod Cursors
 pub mod CasesOfRecords
 pub mod Numbering

@@ -14,6 +14,7 @@ use Rattle.tape.specs.declared.reader.Call.{Call}
 use Rattle.tape.specs.declared.reader.Cursor.{Cursor}
 use Rattle.tape.specs.declared.reader.Read.{Read}
 use Rattle.tape.specs.declared.reader.Read.the-variants.{Record, Refused, End}
+use Rattle.tape.specs.Cursors.{isRecord}
 use Rattle.tape.specs.Tape.{readAt}
 use Rattle.record_output.specs.Bytes.{bytesOf}
 use Rattle.tape_extent.specs.declared.Extent.{Extent}
@@ -49,11 +50,6 @@ longer-capped x b n r i = record {
 }
 
 -- ---- the loop
-
-abbrev pub isRecord : Read → Bool
-isRecord (Record k call next) = true
-isRecord (Refused k n) = false
-isRecord End = false
 
 -- a ledger whose pace the code has, and the count without a bound
 pub record Rolling (pool : List Float) (t : List ℕ) (pace : Pace) (x : Extent) (c : Cursor) (left : ℕ) : Type 0 where

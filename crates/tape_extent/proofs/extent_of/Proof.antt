@@ -13,9 +13,10 @@ use Rattle.floats.specs.Arithmetic.{whole}
 use Rattle.tape.specs.declared.reader.Read.{Read}
 use Rattle.tape.specs.declared.reader.Read.the-variants.{Record, Refused, End}
 use Rattle.tape.proofs.reader.Read.{the-type}
+use Rattle.tape.specs.Cursors.{isRecord}
 use Rattle.tape.specs.Tape.{readAt}
 use Rattle.tape_extent.specs.Extents.{nothing, counts64, endedBy}
-use Rattle.tape_extent.proofs.Rolling.{isRecord, Rolling, start, ends-done, ends-unread, ends-refused, goes-on}
+use Rattle.tape_extent.proofs.Rolling.{Rolling, start, ends-done, ends-unread, ends-refused, goes-on}
 use borrow.Author.Needs.{needs}
 use Rattle.tape_extent.proofs.extent_of.Statement.{statement}
 use Rattle.tape_extent.proofs.extent_of.Tie as tie

@@ -14,7 +14,8 @@ use Rattle.tape.specs.declared.reader.Read.{Read}
 use Rattle.tape.specs.declared.reader.Read.the-variants.{Record, Refused, End}
 use Rattle.tape.proofs.reader.Read.{the-type}
 use Rattle.record_output.specs.Endings.{ending}
-use Rattle.player.proofs.Rolling.{isRecord, start, roomy, ends-refused, ends-short, ends-unread, ends-full-lines, ends-full-bytes}
+use Rattle.tape.specs.Cursors.{isRecord}
+use Rattle.player.proofs.Rolling.{start, roomy, ends-refused, ends-short, ends-unread, ends-full-lines, ends-full-bytes}
 use Rattle.player.proofs.run.Tie as tie
 use Rattle.player.proofs.run.Proof.Invariants.{With}
 use Rattle.player.proofs.run.Proof.Places.{turn, entry, put, going, leaving, output, kind, call, next, rested, same-output, rested-within, unrefused, unshort, reads, less, roomy-in, told, withRefusal, on-silent}

@@ -23,7 +23,8 @@ use Rattle.record_output.specs.declared.Left.{Left}
 use Rattle.record_output.specs.Lines.{roomFor, silentLeft}
 use Rattle.record_output.specs.Endings.{isShort}
 use Rattle.plan_meaning.specs.Meaning.{Means, means, Creates, creates, clockOf}
-use Rattle.player.proofs.Rolling.{Rolling, Resting, moves, rests, same-rest, roomy, goes-on-silent}
+use Rattle.tape.specs.Cursors.{moves}
+use Rattle.player.proofs.Rolling.{Rolling, Resting, rests, same-rest, roomy, goes-on-silent}
 use Rattle.player.proofs.run.Tie as tie
 use Rattle.player.proofs.run.Proof.Invariants.{With}
 
