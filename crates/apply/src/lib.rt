@@ -113,7 +113,7 @@ pub fn silence() -> [f32; 512]
 }
 
 // The push of a record of kind 1, 2 or 3.
-fn push(s: Sequencer, kind: u8, p: PushRecord) -> Outcome
+pub fn push(s: Sequencer, kind: u8, p: PushRecord) -> Outcome
     ensures { λ r. ⌜ r ≡ pushed (pushKindOf kind) s p ⌝ }
 {
     let start = p.start_time;

@@ -8,47 +8,9 @@ use sequencer::Sequencer;
 use tape::reader::Call;
 use tape::reader::Cursor;
 use tape::reader::EditRecord;
-use tape::reader::PushRecord;
 use tape::reader::Read;
 
 // A call that has an answer of its own.
-fn push(s: Sequencer, kind: u8, p: PushRecord) -> Outcome {
-    let ease = p.fade_ease;
-    let source = p.source;
-    match kind {
-        1 => s.push(
-                p.start_time,
-                p.end_time,
-                ease,
-                p.fade_in,
-                p.fade_out,
-                source,
-                p.gain,
-            )
-            .outcome(),
-        2 => s.push_relative(
-                p.start_time,
-                p.end_time,
-                ease,
-                p.fade_in,
-                p.fade_out,
-                source,
-                p.gain,
-            )
-            .outcome(),
-        _ => s.push_duration(
-                p.start_time,
-                p.end_time,
-                ease,
-                p.fade_in,
-                p.fade_out,
-                source,
-                p.gain,
-            )
-            .outcome(),
-    }
-}
-
 fn edit(s: Sequencer, kind: u8, p: EditRecord) -> Outcome {
     let id = p.id;
     match kind {
@@ -79,9 +41,9 @@ fn rest(a: Applied) -> Outcome {
 
 fn play(s: Sequencer, call: Call, pool: &[f32], samples: &mut [f32]) -> Outcome {
     match call {
-        Call::Push(p) => push(s, 1, p),
-        Call::PushRelative(p) => push(s, 2, p),
-        Call::PushDuration(p) => push(s, 3, p),
+        Call::Push(p) => apply::push(s, 1, p),
+        Call::PushRelative(p) => apply::push(s, 2, p),
+        Call::PushDuration(p) => apply::push(s, 3, p),
         Call::Edit(p) => edit(s, 4, p),
         Call::EditRelative(p) => edit(s, 5, p),
         Call::Process(n) => process(s, n as usize, pool, samples),
