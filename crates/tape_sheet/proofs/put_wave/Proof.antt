@@ -9,20 +9,21 @@ use Rattle.tape_sheet.proofs.put_wave.Tie as tie
 
 add-put-numbered-2 : tie.Need-add-put-numbered-2
 add-put-numbered-2 c =
-    let s32 = c .before .before .before .before .before .before .before .before .before .before .before .before .before .before .before .before .before .before .before .before .before .before .before .before .before .before .before .before .before .before .before .before in
-    let h = s32 .fits .channel in
+    let s20 = c .before .before .before .before .before .before .before .before .before .before .before .before .before .before .before .before .before .before .before .before in
+    let h = s20 .before .before .before .before .before .before .before .before .before .before .before .before .fits .channel in
     search needs
 
 add-put-open-text-2 : tie.Need-add-put-open-text-2
 add-put-open-text-2 c =
-    let s40 = c .before .before .before .before .before .before .before .before .before .before .before .before .before .before .before .before .before .before .before .before .before .before .before .before .before .before .before .before .before .before .before .before .before .before .before .before .before .before .before .before in
-    let h = s40 .wave .ensures .1 in
+    let s20 = c .before .before .before .before .before .before .before .before .before .before .before .before .before .before .before .before .before .before .before .before in
+    let h = s20 .before .before .before .before .before .before .before .before .before .before .before .before .before .before .before .before .before .before .before .before .wave .ensures .1 in
     search needs
 
 add-put-open-path : tie.Need-add-put-open-path
 add-put-open-path c =
-    let s59 = c .before .before .before .before .before .before .before .before .before .before .before .before .before .before .before .before .before .before .before .before .before .before .before .before .before .before .before .before .before .before .before .before .before .before .before .before .before .before .before .before .before .before .before .before .before .before .before .before .before .before .before .before .before .before .before .before .before .before .before in
-    let h = s59 .wave .ensures .1 in
+    let s20 = c .before .before .before .before .before .before .before .before .before .before .before .before .before .before .before .before .before .before .before .before in
+    let s40 = s20 .before .before .before .before .before .before .before .before .before .before .before .before .before .before .before .before .before .before .before .before in
+    let h = s40 .before .before .before .before .before .before .before .before .before .before .before .before .before .before .before .before .before .before .before .wave .ensures .1 in
     search needs
 
 same-length : tie.Need-same-length
