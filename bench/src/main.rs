@@ -312,52 +312,65 @@ fn engine(block: bool, n: u64, faded: bool, channels: usize, pool: &Arc<[f32]>) 
 
 fn starts(n: u64, pool: &Arc<[f32]>) {
     let (mut a, mut b) = ([-1.0; 64], [-2.0; 64]);
-    port::starts(n, 2, pool, &mut a);
-    rust::starts(n, 2, pool, &mut b);
-    same("starts", &a, &b);
-    for (part, what) in [(0, "push"), (1, "the block in which they start,")] {
+    for (part, together, what) in [
+        (0, false, "push"),
+        (1, false, "the block in which they start,"),
+        (1, true, "the same in one function with pushes and reset,"),
+    ] {
+        port::starts(together, n, 2, pool, &mut a);
+        rust::starts(n, 2, pool, &mut b);
+        same("starts", &a, &b);
         let times = best(
             100,
-            [&mut |k| port::starts(n, k, pool, &mut a)[part], &mut |k| {
-                rust::starts(n, k, pool, &mut b)[part]
-            }],
+            [
+                &mut |k| port::starts(together, n, k, pool, &mut a)[part],
+                &mut |k| rust::starts(n, k, pool, &mut b)[part],
+            ],
         );
         show(&format!("{what} {n} events"), times, n as usize);
     }
 }
 
-/// The block in which n events start where the engine stays in place: a tape with such blocks through the C entry, less the same tape without them.
-fn starts_on_tape(n: u64) {
-    const ROUNDS: usize = 20;
-    let tapes = [false, true].map(|starts| tapes::come_in(n, starts, ROUNDS));
-    let mut ours = vec![0xA5; 4 * 64 * ROUNDS];
-    let mut theirs = ours.clone();
-    let length = render::render(&tapes[1], &mut theirs);
+/// The blocks of a tape where the engine stays in place. Ours is the tape through the C entry, less the same tape without them. The Rust's is its `process` alone on that tape: its
+/// reset takes every waiting event from the heap, which would count for the tape without the blocks.
+fn blocks_alone(what: &str, with: &[u8], without: &[u8], blocks: usize, events: usize) {
+    let mut theirs = vec![0xA5; 4 * 64 * blocks];
+    let mut ours = theirs.clone();
+    let length = render::render(with, &mut theirs);
     assert_eq!(
-        port::render(&tapes[1], &mut ours),
+        port::render(with, &mut ours),
         length,
-        "starts: the counts differ"
+        "{what}: the counts differ"
     );
-    assert!(ours == theirs, "starts: the bytes differ");
-    let (mut ours_too, mut theirs_too) = (ours.clone(), theirs.clone());
-    let [our_pushes, pushes, our_both, both] = best(
+    assert!(ours == theirs, "{what}: the bytes differ");
+    let mut ours_too = ours.clone();
+    let [pushes, both, blocks] = best(
         1_000_000,
         [
-            &mut |k| timed(k, || _ = port::render(black_box(&tapes[0]), &mut ours)),
-            &mut |k| timed(k, || _ = render::render(black_box(&tapes[0]), &mut theirs)),
-            &mut |k| timed(k, || _ = port::render(black_box(&tapes[1]), &mut ours_too)),
+            &mut |k| timed(k, || _ = port::render(black_box(without), &mut ours)),
+            &mut |k| timed(k, || _ = port::render(black_box(with), &mut ours_too)),
             &mut |k| {
-                timed(k, || {
-                    _ = render::render(black_box(&tapes[1]), &mut theirs_too)
-                })
+                (0..k)
+                    .map(|_| render::process_time(black_box(with), &mut theirs))
+                    .sum()
             },
         ],
     );
-    show(
-        &format!("the block in which they start, {n} events, through the C entry"),
-        [our_both - our_pushes, both - pushes],
-        ROUNDS * n as usize,
-    );
+    show(what, [both - pushes, blocks], events);
+}
+
+/// The block in which 256 events start, at one time or each at its own; and the four blocks in which 256 clips start and end.
+fn starts_on_tapes() {
+    const ROUNDS: usize = 20;
+    for (apart, when) in [(false, ""), (true, ", each at its own time")] {
+        let [without, with] =
+            [false, true].map(|starts| tapes::come_in(256, apart, starts, ROUNDS));
+        let what = format!("the block in which they start, 256 events, through the C entry{when}");
+        blocks_alone(&what, &with, &without, ROUNDS, 256 * ROUNDS);
+    }
+    let (with, without) = (tapes::all_at_once(ROUNDS), tapes::pushed_alone(ROUNDS));
+    let what = "the four blocks of '256 at once', 256 events, through the C entry";
+    blocks_alone(what, &with, &without, 4 * ROUNDS, 256 * ROUNDS);
 }
 
 /// A tape through the C entry, and through the same loop in Rust.
@@ -455,7 +468,7 @@ fn main() {
     for n in [16, 256] {
         starts(n, &pool);
     }
-    starts_on_tape(256);
+    starts_on_tapes();
     head("tapes through the C entry, ns a record");
     for (what, tape) in tapes::all(1) {
         entry(what, &tape);

@@ -51,6 +51,16 @@ mod raw {
             times: *mut u64,
             two: usize,
         );
+        pub fn port_starts_together(
+            n: u64,
+            rounds: u64,
+            pool: *const f32,
+            k: usize,
+            out: *mut f32,
+            m: usize,
+            times: *mut u64,
+            two: usize,
+        );
         pub fn port_blocks(
             channels: usize,
             n: u64,
@@ -135,11 +145,15 @@ pub fn peak(rounds: u64, window: usize, runs: bool, samples: &[f32]) -> (u64, u6
     (spent, digest)
 }
 
-/// The times of the pushes and of the blocks in which they start.
-pub fn starts(n: u64, rounds: u64, pool: &[f32], out: &mut [f32]) -> [u64; 2] {
+/// The times of the pushes and of the blocks in which they start. The block has a function of its own, or stands together with the pushes and the reset.
+pub fn starts(together: bool, n: u64, rounds: u64, pool: &[f32], out: &mut [f32]) -> [u64; 2] {
     let mut times = [0; 2];
     let (p, o, t) = (pool.as_ptr(), out.as_mut_ptr(), times.as_mut_ptr());
-    unsafe { raw::port_starts(n, rounds, p, pool.len(), o, out.len(), t, 2) }
+    let call = match together {
+        true => raw::port_starts_together,
+        false => raw::port_starts,
+    };
+    unsafe { call(n, rounds, p, pool.len(), o, out.len(), t, 2) }
     times
 }
 

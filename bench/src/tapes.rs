@@ -130,7 +130,7 @@ fn dense(blocks: usize) -> Vec<u8> {
 }
 
 /// 256 clips are pushed and start in one block of 64; three blocks later all are let go.
-fn all_at_once(rounds: usize) -> Vec<u8> {
+pub fn all_at_once(rounds: usize) -> Vec<u8> {
     let mut writer = Writer::new(1);
     for _ in 0..rounds {
         for _ in 0..256 {
@@ -144,7 +144,7 @@ fn all_at_once(rounds: usize) -> Vec<u8> {
 }
 
 /// The same 256 pushes, and a reset that lets them go: what is left of the tape above are its four blocks.
-fn pushed_alone(rounds: usize) -> Vec<u8> {
+pub fn pushed_alone(rounds: usize) -> Vec<u8> {
     let mut writer = Writer::new(1);
     for _ in 0..rounds {
         for _ in 0..256 {
@@ -155,13 +155,23 @@ fn pushed_alone(rounds: usize) -> Vec<u8> {
     writer.tape
 }
 
-/// n events are pushed that sound on without a fade, and where `starts` a block follows in which they all start; then a reset.
-pub fn come_in(n: u64, starts: bool, rounds: usize) -> Vec<u8> {
+/// A time in the first 63 samples at 44,100 Hz, another for each of the first 4,294,967,296 numbers.
+fn scattered(number: u64) -> f64 {
+    let part = (number as u32).wrapping_mul(0x9E37_79B1);
+    f64::from(part) / 4_294_967_296.0 * 63.0 / 44_100.0
+}
+
+/// n events are pushed that sound on without a fade, to start at 0 or, `apart`, each at a time of its own in one block, other ones in each round. Where `starts` that block follows; then a reset.
+pub fn come_in(n: u64, apart: bool, starts: bool, rounds: usize) -> Vec<u8> {
     let mut writer = Writer::new(1);
-    for _ in 0..rounds {
+    for round in 0..rounds {
         for i in 0..n {
             let push = Push {
-                start: 0.0,
+                start: if apart {
+                    scattered(round as u64 * n + i)
+                } else {
+                    0.0
+                },
                 end: 1000.0,
                 fade_in: 0.0,
                 fade_out: 0.0,

@@ -68,7 +68,7 @@ module _ (ks : List Key) (count : ℕ) (out₀ : List ℕ) where
       let t = next k all v (keysInOrder (take m (left xs m))) (sym r ∙ first-leaves xs m (omega arith) o) in
       record {
         within = omega arith;
-        fits = rw (moves-length keyLess noKey (sink-moves keyLess noKey m m xs 0 (getD xs m noKey))) a;
+        fits = rw (moves-length keyLess noKey (sink-moves keyLess noKey m m xs 0 (getD xs m noKey) (omega arith))) a;
         ordered = rw n (pop-ordered keyLess noKey key-order xs m (getD xs m noKey) (omega arith) o);
         rest = rw n (sym (t .1));
         front = take-suc-set out k v h ∙ ap (λ (y : List ℕ). y ++ (v ∷ [])) (d .front) ∙ sym (t .0);

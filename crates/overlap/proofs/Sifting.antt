@@ -1,15 +1,14 @@
 -- The loops of `sift_up` and `sift_down`: the rounds of a heap, of keys that stand in two lists. Assumes nothing.
 use mathlib.Core.Bool.{Bool, true, false}
-use mathlib.Core.Path.{_≡_, refl, sym, ap, _∙_, subst}
+use mathlib.Core.Path.{_≡_, _∙_}
 use mathlib.Core.List.{List}
 use Prim.Native.Nat.{ℕ, _+_, _*_, _≤_, _<_}
 use lib.Ieee.{Float, nan}
 use lib.ListN.{length, getD, set}
-use Rattle.floats.specs.Sooner.{sooner}
 use Rattle.ready.specs.Sift.{child, parent}
 use Rattle.ready.specs.Steps.{child-left, child-first, child-second}
 use Rattle.overlap.specs.Keys.{Key, keyLess, noKey, pairs, getD-pairs, set-pairs}
-use Rattle.ready.specs.Rounds.{Rising, rising-on, risen-root, risen-stop, Sinking, sinking-on, sunk-end, sunk-stop}
+use Rattle.ready.specs.Rounds.{Rising, rising-on, risen-root, risen-stop, Sinking, sinking-on}
 
 module _ (ss : List Float) (ns : List ℕ) (same : length ss ≡ length ns) where
   -- the key at place i, as the code reads it
@@ -40,16 +39,9 @@ module _ (ss : List Float) (ns : List ℕ) (same : length ss ≡ length ns) wher
     up-stop i h s = stored i k ∙ risen-stop keyLess noKey (pairs ss ns) i k r (rw (here (parent i)) h) s
 
     -- the child c
-    pub down-on : (n i c : ℕ) → 2 * i + 1 < n → child keyLess noKey (pairs ss ns) n i ≡ c → keyLess (at c) k ≡ true → Sinking keyLess noKey (pairs ss ns) n i k r
+    pub down-on : (n i c : ℕ) → 2 * i + 1 < n → child keyLess noKey (pairs ss ns) n i ≡ c → Sinking keyLess noKey (pairs ss ns) n i k r
         → Sinking keyLess noKey (pairs (set ss i (at c .0)) (set ns i (at c .1))) n c k r
-    down-on n i c p hc h s = rw (stored i (at c)) (sinking-on keyLess noKey (pairs ss ns) n i k r c (at c) p hc (here c) h s)
-
-    pub down-end : (n i : ℕ) → n ≤ 2 * i + 1 → Sinking keyLess noKey (pairs ss ns) n i k r → pairs (set ss i (k .0)) (set ns i (k .1)) ≡ r
-    down-end n i h s = stored i k ∙ sunk-end keyLess noKey (pairs ss ns) n i k r h s
-
-    pub down-stop : (n i c : ℕ) → child keyLess noKey (pairs ss ns) n i ≡ c → keyLess (at c) k ≡ false → Sinking keyLess noKey (pairs ss ns) n i k r
-        → pairs (set ss i (k .0)) (set ns i (k .1)) ≡ r
-    down-stop n i c hc h s = stored i k ∙ sunk-stop keyLess noKey (pairs ss ns) n i k r c (at c) hc (here c) h s
+    down-on n i c p hc s = rw (stored i (at c)) (sinking-on keyLess noKey (pairs ss ns) n i k r c (at c) p hc (here c) s)
 
   -- which child the code takes
   pub second-child : (n i : ℕ) → 2 * i + 2 < n → keyLess (at (2 * i + 2)) (at (2 * i + 1)) ≡ true → child keyLess noKey (pairs ss ns) n i ≡ 2 * i + 2

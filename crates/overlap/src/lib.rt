@@ -81,7 +81,7 @@ fn first_child(starts: &[f64], numbers: &[u64], m: usize, i: usize) -> usize
     l
 }
 
-// The first of m + 1 leaves, and the last goes down from its place, past every child that precedes it.
+// The first of m + 1 leaves: its place is filled from below, and from where that ends the last goes up.
 fn sift_down(starts: &mut [f64], numbers: &mut [u64], m: usize)
     requires { ⌜ m < length (now starts) ⌝ ∗ ⌜ length (now starts) ≡ length (now numbers) ⌝ }
     ensures { λ _. ⌜ (let ks = pairs (now (starts .entry)) (now (numbers .entry)) in pairs (now (starts .exit)) (now (numbers .exit)) ≡ sink keyLess noKey m ks m 0 (getD ks m noKey)) ⌝ }
@@ -91,15 +91,11 @@ fn sift_down(starts: &mut [f64], numbers: &mut [u64], m: usize)
     let mut i = 0;
     while 2 * i + 1 < m {
         let c = first_child(starts, numbers, m, i);
-        if !is_sooner(starts[c], numbers[c], start, number) {
-            break;
-        }
         starts[i] = starts[c];
         numbers[i] = numbers[c];
         i = c;
     }
-    starts[i] = start;
-    numbers[i] = number;
+    sift_up(starts, numbers, i, start, number);
 }
 
 // The first n numbers of a heap of `count` keys, in order. The heap is used up.

@@ -155,7 +155,7 @@ pub fn run(
                 s.let_go = plans::gone(step.releases, s.let_go, s.past_len);
                 s.past_len = plans::kept(step.releases, s.past_len);
                 s.active_threshold = step.threshold;
-                // "While W's first start < θ it moves to S's end, taking and removing its edit." The heap's last goes down from the first place, past every child that precedes it.
+                // "While W's first start < θ it moves to S's end, taking and removing its edit." The first place is filled from below, and from where that ends the heap's last goes up, past every one that it precedes.
                 loop {
                     let first = s.ready[0];
                     if !plans::starts(s.ready_len, first.start_time, s.active_threshold) {
@@ -193,11 +193,19 @@ pub fn run(
                         let right = s.ready[2 * i + 2];
                         let c = plans::lesser_child(2 * i + 1, m, left, right);
                         let child = s.ready[c];
-                        if !child.precedes(last) {
-                            break;
-                        }
                         s.ready[i] = child;
                         i = c;
+                    }
+                    while 0 < i {
+                        let p = (i - 1) / 2;
+                        let parent = s.ready[p];
+                        if !last.precedes(parent) {
+                            break;
+                        }
+                        // Read again: a parent that stays is then not copied.
+                        let parent = s.ready[p];
+                        s.ready[i] = parent;
+                        i = p;
                     }
                     s.ready[i] = last;
                     s.ready_len = m;

@@ -9,7 +9,7 @@ use native.Mathlib.Decide.{ℕ-discrete, decLt}
 use lib.ListN.{getD, set, length, drop, length-set}
 use lib.Seq.{getD-set-same, getD-set-other, set-getD, set-comm, drop-set-lt}
 use Rattle.ready.specs.Sift.{rise, sink, child, parent}
-use Rattle.ready.specs.Steps.{rise-root, rise-stop, rise-turn, sink-end, sink-stop, sink-turn, child-left, child-first, child-second, child-above}
+use Rattle.ready.specs.Steps.{rise-root, rise-stop, rise-turn, sink-end, sink-turn, child-left, child-first, child-second, child-above}
 
 -- the order that a heap goes by: of two elements one does not come after the other, and what does not come after goes on
 pub record Order {A : Type 0} (less : A → A → Bool) : Type 0 where
@@ -68,7 +68,7 @@ module _ {A : Type 0} (less : A → A → Bool) (z : A) where
   moves-drop {n} k (move {xs} {i} p a b m) = moves-drop b m ∙ drop-set-lt n xs i (getD xs p z) k
 
   -- what `rise` and `sink` do are such moves
-  pub rise-moves : (f n : ℕ) (xs : List A) (i : ℕ) (e : A) → i < n → Moves n xs i e (rise less z f xs i e)
+  pub rise-moves : (f n : ℕ) (xs : List A) (i : ℕ) (e : A) → i ≤ n → Moves n xs i e (rise less z f xs i e)
   unfolding rise
   rise-moves zero n xs i e h = stay refl
   rise-moves (suc f) n xs i e h = go (rise-moves f n (set xs i (getD xs (parent i) z)) (parent i) e (omega arith)) (decLt 0 i) (less e (getD xs (parent i) z)) refl
@@ -97,18 +97,19 @@ module _ {A : Type 0} (less : A → A → Bool) (z : A) where
   child-parent : (xs : List A) (n i : ℕ) → parent (child less z xs n i) ≡ i
   child-parent xs n i = ⊎-elim (λ w. omega (arith, w .0)) (λ w. omega (arith, w .0)) (child-cases xs n i)
 
-  pub sink-moves : (f n : ℕ) (xs : List A) (i : ℕ) (e : A) → Moves n xs i e (sink less z f xs n i e)
+  pub sink-moves : (f n : ℕ) (xs : List A) (i : ℕ) (e : A) → i ≤ n → Moves n xs i e (sink less z f xs n i e)
   unfolding sink
-  sink-moves zero n xs i e = stay refl
-  sink-moves (suc f) n xs i e =
-      go (sink-moves f n (set xs i (getD xs (child less z xs n i) z)) (child less z xs n i) e) (decLt (2 * i + 1) n) (less (getD xs (child less z xs n i) z) e) refl
+  sink-moves zero n xs i e h = rise-moves i n xs i e h
+  sink-moves (suc f) n xs i e h =
+      let c = child less z xs n i in
+      go (λ below. sink-moves f n (set xs i (getD xs c z)) c e (omega arith)) (decLt (2 * i + 1) n)
     where
-      go : Moves n (set xs i (getD xs (child less z xs n i) z)) (child less z xs n i) e (sink less z f (set xs i (getD xs (child less z xs n i) z)) n (child less z xs n i) e)
-          → Dec (2 * i + 1 < n) → (b : Bool) → less (getD xs (child less z xs n i) z) e ≡ b → Moves n xs i e (sink less z (suc f) xs n i e)
-      go ih (no k) b q = stay (sink-end less z (suc f) xs n i e (omega arith))
-      go ih (yes k) false q = stay (sink-stop less z (suc f) xs n i e q)
-      go ih (yes k) true q =
-          rw (sink-turn less z f xs n i e k q) (move {xs = xs} {i = i} (child less z xs n i) (omega (arith, child-above less z xs n i)) (child-below xs n i k) ih)
+      go : (let c = child less z xs n i in c < n → Moves n (set xs i (getD xs c z)) c e (sink less z f (set xs i (getD xs c z)) n c e))
+          → Dec (2 * i + 1 < n) → Moves n xs i e (sink less z (suc f) xs n i e)
+      go ih (no k) = rw (sink-end less z (suc f) xs n i e (omega arith)) (rise-moves i n xs i e h)
+      go ih (yes k) =
+          let below = child-below xs n i k in
+          rw (sink-turn less z f xs n i e k) (move {xs = xs} {i = i} (child less z xs n i) (omega (arith, child-above less z xs n i)) below (ih below))
 
 -- ---- the order
 
@@ -190,8 +191,8 @@ module _ {A : Type 0} (less : A → A → Bool) (z : A) where
           go (no k) = rw (other-up j k) (ord .on _ _ _ base (rw a at (g .edges j p h k (omega arith))))
 
     -- one round down, from i to the child that comes first
-    module _ (n : ℕ) (xs : List A) (i : ℕ) (e : A) (c : ℕ) (inside : i < length xs) (down : parent c ≡ i) (above : 0 < c) (low : c < n) (g : Gap n xs i)
-        (least : (j : ℕ) → 0 < j → j < n → parent j ≡ i → less (getD xs j z) (getD xs c z) ≡ false) (first : less (getD xs c z) e ≡ true) where
+    module _ (n : ℕ) (xs : List A) (i : ℕ) (c : ℕ) (inside : i < length xs) (down : parent c ≡ i) (above : 0 < c) (low : c < n) (g : Gap n xs i)
+        (least : (j : ℕ) → 0 < j → j < n → parent j ≡ i → less (getD xs j z) (getD xs c z) ≡ false) where
       same-down : getD (set xs i (getD xs c z)) i z ≡ getD xs c z
       same-down = getD-set-same xs i (getD xs c z) z inside
 
@@ -211,10 +212,6 @@ module _ {A : Type 0} (less : A → A → Bool) (z : A) where
 
           round′ : (j : ℕ) → 0 < j → j < n → parent j ≡ c → 0 < c → less (getD (set xs i (getD xs c z)) j z) (getD (set xs i (getD xs c z)) (parent c) z) ≡ false
           round′ j p h a b = rw (down, same-down, other-down j (omega arith)) (rw a at (g .edges j p h (omega arith) (omega arith)))
-
-      over-down : Over (set xs i (getD xs c z)) c e
-      unfolding Over
-      over-down h = rw (down, same-down) (ord .asym (getD xs c z) e first)
 
     child-least : (xs : List A) (n i j : ℕ) → 0 < j → j < n → parent j ≡ i → less (getD xs j z) (getD xs (child less z xs n i) z) ≡ false
     child-least xs n i j p h q = ⊎-elim (λ w. second (w .0) (w .2) (ℕ-discrete j (2 * i + 1))) (λ w. first (w .0) (w .1) (ℕ-discrete j (2 * i + 1))) (child-cases less z xs n i)
@@ -240,23 +237,19 @@ module _ {A : Type 0} (less : A → A → Bool) (z : A) where
         go ih (yes k) false q = rw (rise-stop less z (suc f) xs i e q) (fill n xs i e (omega arith) g u (λ h. q))
         go ih (yes k) true q = rw (rise-turn less z f xs i e k q) (ih k q)
 
-    sink-ordered : (f n : ℕ) (xs : List A) (i : ℕ) (e : A) → n ≤ i + f → i < n → n ≤ length xs → Gap n xs i → Over xs i e → Heap-ordered (sink less z f xs n i e) n
+    sink-ordered : (f n : ℕ) (xs : List A) (i : ℕ) (e : A) → n ≤ i + f → i < n → n ≤ length xs → Gap n xs i → Heap-ordered (sink less z f xs n i e) n
     unfolding Under
-    sink-ordered zero n xs i e a b c g o = absurd (omega arith)
-    sink-ordered (suc f) n xs i e a b c g o =
+    sink-ordered zero n xs i e a b c g = absurd (omega arith)
+    sink-ordered (suc f) n xs i e a b c g =
+        let h = child-above less z xs n i in
         go
-        (λ k q. let h = child-above less z xs n i in
-        let below = child-below less z xs n i k in
-        sink-ordered f n (set xs i (getD xs (child less z xs n i) z)) (child less z xs n i) e (omega arith) below (rw length-set c)
-        (gap-down n xs i e (child less z xs n i) (omega arith) (child-parent less z xs n i) (omega arith) below g (child-least xs n i) q)
-        (over-down n xs i e (child less z xs n i) (omega arith) (child-parent less z xs n i) (omega arith) below g (child-least xs n i) q))
-        (decLt (2 * i + 1) n) (less (getD xs (child less z xs n i) z) e) refl
+        (λ below. sink-ordered f n (set xs i (getD xs (child less z xs n i) z)) (child less z xs n i) e (omega arith) below (rw length-set c)
+        (gap-down n xs i (child less z xs n i) (omega arith) (child-parent less z xs n i) (omega arith) below g (child-least xs n i)))
+        (decLt (2 * i + 1) n)
       where
-        go : (2 * i + 1 < n → less (getD xs (child less z xs n i) z) e ≡ true → Heap-ordered (sink less z f (set xs i (getD xs (child less z xs n i) z)) n (child less z xs n i) e) n)
-            → Dec (2 * i + 1 < n) → (b : Bool) → less (getD xs (child less z xs n i) z) e ≡ b → Heap-ordered (sink less z (suc f) xs n i e) n
-        go ih (no k) t q = rw (sink-end less z (suc f) xs n i e (omega arith)) (fill n xs i e (omega arith) g (λ j p h r. absurd (omega arith)) o)
-        go ih (yes k) false q = rw (sink-stop less z (suc f) xs n i e q) (fill n xs i e (omega arith) g (λ j p h r. ord .on _ _ _ q (child-least xs n i j p h r)) o)
-        go ih (yes k) true q = rw (sink-turn less z f xs n i e k q) (ih k q)
+        go : (let j = child less z xs n i in j < n → Heap-ordered (sink less z f (set xs i (getD xs j z)) n j e) n) → Dec (2 * i + 1 < n) → Heap-ordered (sink less z (suc f) xs n i e) n
+        go ih (no k) = rw (sink-end less z (suc f) xs n i e (omega arith)) (rise-ordered i n xs i e (omega arith) b c g (λ j p h r. absurd (omega arith)))
+        go ih (yes k) = rw (sink-turn less z f xs n i e k) (ih (child-below less z xs n i k))
 
     -- the root comes before none
     pub root-least : (xs : List A) (n : ℕ) → Heap-ordered xs n → (f j : ℕ) → j ≤ f → j < n → less (getD xs j z) (getD xs 0 z) ≡ false
@@ -277,8 +270,8 @@ module _ {A : Type 0} (less : A → A → Bool) (z : A) where
         (record { edges = λ j p b c d. o j p (omega arith); round = λ j p b c d. absurd (omega arith) }) (λ j p b c. absurd (omega arith))
 
     pub pop-ordered : (xs : List A) (m : ℕ) (e : A) → m < length xs → Heap-ordered xs (suc m) → Heap-ordered (sink less z m xs m 0 e) m
-    unfolding Heap-ordered Over
+    unfolding Heap-ordered
     pop-ordered xs zero e h o = λ j p b. absurd (omega arith)
     pop-ordered xs (suc m) e h o =
         sink-ordered (suc m) (suc m) xs 0 e (omega arith) (omega arith) (omega arith)
-        (record { edges = λ j p b c d. o j p (omega arith); round = λ j p b c d. absurd (omega arith) }) (λ b. absurd (omega arith))
+        (record { edges = λ j p b c d. o j p (omega arith); round = λ j p b c d. absurd (omega arith) })

@@ -6,7 +6,7 @@ use Prim.Native.Nat.{ℕ, zero, suc, _+_, _*_, _≤_, _<_}
 use native.Mathlib.Omega.{arith}
 use lib.ListN.{getD, set}
 use Rattle.ready.specs.Sift.{rise, sink, child, parent}
-use Rattle.ready.specs.Steps.{rise-root, rise-stop, rise-turn, sink-turn, sink-end, sink-stop, child-above}
+use Rattle.ready.specs.Steps.{rise-root, rise-stop, rise-turn, sink-turn, sink-end, child-above}
 
 module _ {A : Type 0} (less : A → A → Bool) (z : A) where
   pub record Rising (xs : List A) (i : ℕ) (e : A) (r : List A) : Type 0 where
@@ -34,19 +34,14 @@ module _ {A : Type 0} (less : A → A → Bool) (z : A) where
     pub gives : sink less z fuel xs n i e ≡ r
 
   -- the loop has found the child c and its element x
-  pub sinking-on : (xs : List A) (n i : ℕ) (e : A) (r : List A) (c : ℕ) (x : A) → 2 * i + 1 < n → child less z xs n i ≡ c → getD xs c z ≡ x → less x e ≡ true
+  pub sinking-on : (xs : List A) (n i : ℕ) (e : A) (r : List A) (c : ℕ) (x : A) → 2 * i + 1 < n → child less z xs n i ≡ c → getD xs c z ≡ x
       → Sinking xs n i e r → Sinking (set xs i x) n c e r
-  sinking-on xs n i e r c x p hc hx h s = rw (← hx, ← hc) (go (s .fuel) (s .enough) (s .gives))
+  sinking-on xs n i e r c x p hc hx s = rw (← hx, ← hc) (go (s .fuel) (s .enough) (s .gives))
     where
-      h′ : less (getD xs (child less z xs n i) z) e ≡ true
-      h′ = rw (hc, hx) h
-
       go : (f : ℕ) → n ≤ i + f → sink less z f xs n i e ≡ r → Sinking (set xs i (getD xs (child less z xs n i) z)) n (child less z xs n i) e r
       go zero l g = absurd (omega arith)
-      go (suc f) l g = record { fuel = f; enough = omega (arith, child-above less z xs n i); gives = sym (sink-turn less z f xs n i e p h′) ∙ g }
+      go (suc f) l g = record { fuel = f; enough = omega (arith, child-above less z xs n i); gives = sym (sink-turn less z f xs n i e p) ∙ g }
 
-  pub sunk-end : (xs : List A) (n i : ℕ) (e : A) (r : List A) → n ≤ 2 * i + 1 → Sinking xs n i e r → set xs i e ≡ r
-  sunk-end xs n i e r h s = sym (sink-end less z (s .fuel) xs n i e h) ∙ s .gives
-
-  pub sunk-stop : (xs : List A) (n i : ℕ) (e : A) (r : List A) (c : ℕ) (x : A) → child less z xs n i ≡ c → getD xs c z ≡ x → less x e ≡ false → Sinking xs n i e r → set xs i e ≡ r
-  sunk-stop xs n i e r c x hc hx h s = sym (sink-stop less z (s .fuel) xs n i e (rw (hc, hx) h)) ∙ s .gives
+  -- where place i has no child, e rises from it
+  pub sunk : (xs : List A) (n i : ℕ) (e : A) (r : List A) → n ≤ 2 * i + 1 → Sinking xs n i e r → rise less z i xs i e ≡ r
+  sunk xs n i e r h s = sym (sink-end less z (s .fuel) xs n i e h) ∙ s .gives

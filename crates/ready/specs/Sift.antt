@@ -21,9 +21,10 @@ module _ {A : Type 0} (less : A → A → Bool) (z : A) where
   unfoldable pub child : List A → ℕ → ℕ → ℕ
   child xs n i = cond (ltb (2 * i + 2) n && less (getD xs (2 * i + 2) z) (getD xs (2 * i + 1) z)) (2 * i + 2) (2 * i + 1)
 
-  -- e goes to place i, or, where that child leaves before e, the child moves there and e goes on from the child's place
+  -- place i is filled by that child and its place by the next, down to a place without one; from there e rises
   unfoldable pub sink : ℕ → List A → ℕ → ℕ → A → List A
-  sink zero xs n i e = set xs i e
+  unfolding rise child
+  sink zero xs n i e = rise i xs i e
   sink (suc f) xs n i e =
       let r = sink f (set xs i (getD xs (child xs n i) z)) n (child xs n i) e in
-      cond (ltb (2 * i + 1) n && less (getD xs (child xs n i) z) e) r (set xs i e)
+      cond (ltb (2 * i + 1) n) r (rise i xs i e)

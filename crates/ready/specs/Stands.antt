@@ -47,7 +47,7 @@ module _ {A : Type 0} (less : A → A → Bool) (z : A) where
       l = take (suc m) xs
 
       front : Perm (take (suc m) (sink less z (suc m) xs (suc m) 0 (getD xs (suc m) z))) (set l 0 b)
-      front = Perm·trans (moves-front (omega arith) (omega arith) (sink-moves less z (suc m) (suc m) xs 0 b)) (perm-eq (take-set-lt (suc m) xs 0 b (omega arith)))
+      front = Perm·trans (moves-front (omega arith) (omega arith) (sink-moves less z (suc m) (suc m) xs 0 b (omega arith))) (perm-eq (take-set-lt (suc m) xs 0 b (omega arith)))
 
       back : Perm (getD xs 0 z ∷ set l 0 b) (b ∷ l)
       back =
@@ -55,8 +55,8 @@ module _ {A : Type 0} (less : A → A → Bool) (z : A) where
           let n : 0 < length l = rw (length-take-le (suc m) xs (omega arith)) (omega arith) in
           Perm·trans (one l 0 a b n) (perm-eq (ap (λ (x : List A). b ∷ x) (ap (λ (y : A). set l 0 y) (sym (getD-take (suc m) xs 0 z (omega arith))) ∙ set-getD l 0 z)))
 
-  sink-length : (f : ℕ) (xs : List A) (n i : ℕ) (e : A) → length (sink less z f xs n i e) ≡ length xs
-  sink-length f xs n i e = moves-length less z (sink-moves less z f n xs i e)
+  sink-length : (f : ℕ) (xs : List A) (n : ℕ) (e : A) → length (sink less z f xs n 0 e) ≡ length xs
+  sink-length f xs n e = moves-length less z (sink-moves less z f n xs 0 e (omega arith))
 
   -- what stands in the first n has a place there
   mem-at : (n : ℕ) (xs : List A) (y : A) → List·Memᴰ y (take n xs) → (j : ℕ) × (j < n) × (y ≡ getD xs j z)
@@ -88,7 +88,7 @@ module _ {A : Type 0} (less : A → A → Bool) (z : A) where
     stands-pop set? xs m x w before s = (
       heads .0,
       record {
-        fits = rw (sink-length m xs m 0 (getD xs m z)) (omega (arith, s .fits));
+        fits = rw (sink-length m xs m (getD xs m z)) (omega (arith, s .fits));
         ordered = pop-ordered less z ord xs m (getD xs m z) (s .fits) (s .ordered);
         same = heads .1;
       },

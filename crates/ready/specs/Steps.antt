@@ -44,17 +44,12 @@ module _ {A : Type 0} (less : A → A → Bool) (z : A) where
       go true = omega arith
       go false = omega arith
 
-  pub sink-turn : (f : ℕ) (xs : List A) (n i : ℕ) (e : A) → 2 * i + 1 < n → less (getD xs (child less z xs n i) z) e ≡ true
+  pub sink-turn : (f : ℕ) (xs : List A) (n i : ℕ) (e : A) → 2 * i + 1 < n
       → sink less z (suc f) xs n i e ≡ sink less z f (set xs i (getD xs (child less z xs n i) z)) n (child less z xs n i) e
   unfolding sink
-  sink-turn f xs n i e p h = rw (lt-ltb (2 * i + 1) n p, h)
+  sink-turn f xs n i e p = rw (lt-ltb (2 * i + 1) n p)
 
-  pub sink-end : (f : ℕ) (xs : List A) (n i : ℕ) (e : A) → n ≤ 2 * i + 1 → sink less z f xs n i e ≡ set xs i e
+  pub sink-end : (f : ℕ) (xs : List A) (n i : ℕ) (e : A) → n ≤ 2 * i + 1 → sink less z f xs n i e ≡ rise less z i xs i e
   unfolding sink
   sink-end zero xs n i e h = refl
   sink-end (suc f) xs n i e h = rw (le-ltb (2 * i + 1) n h)
-
-  pub sink-stop : (f : ℕ) (xs : List A) (n i : ℕ) (e : A) → less (getD xs (child less z xs n i) z) e ≡ false → sink less z f xs n i e ≡ set xs i e
-  unfolding sink
-  sink-stop zero xs n i e h = refl
-  sink-stop (suc f) xs n i e h = rw (h, and-false (ltb (2 * i + 1) n))

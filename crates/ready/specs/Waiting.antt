@@ -34,7 +34,7 @@ peeked h = getD (h .items) 0 blank
 unfoldable pub pushed : Ready → Event → Ready
 pushed h e = cond (ltb (h .len) 256) (record { items = rise earlier blank (h .len) (h .items) (h .len) e; len = h .len + 1 }) h
 
--- the last sinks from the first place
+-- the first place is filled from below, and the last rises from where that ends
 unfoldable pub popped : Ready → Ready
 popped h =
     let n = h .len - 1 in

@@ -71,7 +71,7 @@ pub waits-pop : (h : Ready) (e : Event) (w : List Event) → Sorted (e ∷ w) �
 unfolding popped
 waits-pop h e w q s =
     rw (lt-ltb 0 (h .len) some, le-leb (h .len) 256 (omega (arith, s .stands .fits, s .sized)))
-    (r .0, record { sized = moves-length earlier blank (sink-moves earlier blank n n (h .items) 0 (getD (h .items) n blank)) ∙ s .sized; stands = r .1 })
+    (r .0, record { sized = moves-length earlier blank (sink-moves earlier blank n n (h .items) 0 (getD (h .items) n blank) (omega arith)) ∙ s .sized; stands = r .1 })
   where
     n : ℕ
     n = h .len - 1

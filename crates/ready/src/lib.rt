@@ -68,7 +68,8 @@ impl Ready {
         self
     }
 
-    // The first leaves, and the last goes down from its place, past every child that precedes it. An empty heap stays as it is.
+    // The first leaves: the child that precedes fills its place, and so on down to a place without one; from there the last goes up, past every one that it precedes. An empty heap stays as it is.
+    // The standard library's heap does so too: the last most often belongs far down, so on the way down nothing is compared with it.
     pub fn pop(mut self) -> Ready
         ensures { λ r. ⌜ r ≡ popped self ⌝ }
     {
@@ -94,11 +95,17 @@ impl Ready {
                 }
             }
             let child = self.items[c];
-            if !child.precedes(last) {
-                break;
-            }
             self.items[i] = child;
             i = c;
+        }
+        while 0 < i {
+            let p = (i - 1) / 2;
+            let parent = self.items[p];
+            if !last.precedes(parent) {
+                break;
+            }
+            self.items[i] = parent;
+            i = p;
         }
         self.items[i] = last;
         self.len = m;

@@ -3,15 +3,12 @@ use borrow.Author.Needs.{needs}
 use denote.Ref.{now}
 use Prim.Native.Nat.{_≤_, _<_, _-_}
 use mathlib.Core.Path.{_≡_, refl, sym, ap, _∙_}
-use mathlib.Core.Logic.{⊎-elim}
 use native.Mathlib.Omega.{arith}
 use lib.ListN.{length, length-set}
-use borrow.Author.Tests.{not-true, not-false}
 use Rattle.ready.specs.Sift.{sink}
-use Rattle.ready.specs.Steps.{child-above}
 use Rattle.overlap.specs.Keys.{Key, keyLess, noKey, pairs, getD-pairs}
-use Rattle.ready.specs.Rounds.{Sinking}
-use Rattle.overlap.proofs.Sifting.{down-on, down-end, down-stop}
+use Rattle.ready.specs.Rounds.{Sinking, sunk}
+use Rattle.overlap.proofs.Sifting.{down-on}
 use Rattle.overlap.proofs.sift_down.Statement.{statement}
 use Rattle.overlap.proofs.sift_down.Tie as tie
 
@@ -30,7 +27,7 @@ loop-holds c =
 
 loop-again : tie.Need-loop-again Inv-loop μ-loop
 loop-again c =
-    let d = c .before .before .before .before .before .before in
+    let d = c .before .before in
     let l = d .before .before .before .before .loop in
     let v = l .inv in (
       omega arith,
@@ -38,18 +35,18 @@ loop-again c =
       simp length-set (v .2),
       simp length-set (v .3),
       simp length-set (v .4),
-      down-on _ _ (v .3) _ _ _ _ _ (d .before .before .before .loop-test .taken) (sym (d .first-child .ensures .0)) (sym (c .before .before .before .is-sooner .ensures) ∙ not-false _ (c .before .before .if1 .left)) (v .5),
+      down-on _ _ (v .3) _ _ _ _ _ (d .before .before .before .loop-test .taken) (sym (d .first-child .ensures .0)) (v .5),
     )
 
 returns : tie.Need-returns Inv-loop μ-loop
 returns c =
-    let v = c .before .loop .inv in
-    let s = c .before .before .before .before .before .before in
+    let d = c .before .before .before .before in
+    let a = d .before .before .before in
+    let s = a .before .before .before .before .before .before in
     let ss = now (s .args .starts) in
     let ns = now (s .args .numbers) in
     let m = s .args .m in
-    ⊎-elim (λ w. down-end _ _ (v .3) _ _ _ _ (w .left) (v .5))
-    (λ w. down-stop _ _ (v .3) _ _ _ _ _ (sym (w .3 .ensures .0)) (sym (w .6 .ensures) ∙ not-true _ (w .7 .taken)) (v .5)) (c .loop-test .came)
+    d .sift-up .ensures ∙ sunk keyLess noKey _ _ _ _ _ (a .loop-test .left) (a .before .loop .inv .5)
     ∙ ap (λ (k : Key). sink keyLess noKey m (pairs ss ns) m 0 k) (sym (getD-pairs ss ns m (s .pre .1)))
 
 pub sift-down-spec : {M : Type 1} → statement M
@@ -57,6 +54,5 @@ sift-down-spec =
     tie.close
     (tie.spec Inv-loop μ-loop (λ c. search needs) (λ c. search needs) (λ c. search needs) (λ c. search needs) loop-holds (λ c. search needs)
     (λ c. search needs) (λ c κs. search needs) (λ c. search needs) (λ c. search needs) (λ c. search needs) (λ c. search needs)
-    (λ c κs. search needs) (λ c. search needs) (λ c. search needs) (λ c. search needs) (λ c. search needs) (λ c. search needs)
-    (λ c. search needs) (λ c. search needs) (λ c. search needs) (λ c. search needs) loop-again (λ c. search needs) (λ c. search needs)
-    (λ c. search needs) (λ c. search needs) (λ c. search needs) (λ c. search needs) returns)
+    (λ c. search needs) (λ c. search needs) (λ c. search needs) (λ c. search needs) (λ c. search needs) loop-again
+    (λ c κs. search needs) (λ c. search needs) (λ c. search needs) returns)

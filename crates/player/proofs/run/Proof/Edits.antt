@@ -1,4 +1,4 @@
--- An edit: the event is sought among those that sound (loop9). If it is not there and the edit is not past, a stored edit of it is sought (loop10), and the edit is stored.
+-- An edit: the event is sought among those that sound (loop10). If it is not there and the edit is not past, a stored edit of it is sought (loop11), and the edit is stored.
 use borrow.Author.Needs.{needs}
 use borrow.Author.Tests.{eq-eqb, ne-eqb, not-true, not-false}
 use mathlib.Core.Path.{_≡_, sym, ap, _∙_}
@@ -25,27 +25,27 @@ use Rattle.player.proofs.run.Proof.Places.{beginning, kind, engine, les
 -- ---- the places
 
 -- from where the event has been sought: the plan, what it says, the event's number and the edit
-abbrev amend : With tie.At-loop9 → With tie.After-plan5
+abbrev amend : With tie.At-loop10 → With tie.After-plan5
 amend c = c .before .before .before
 
-abbrev plan : With tie.At-loop9 → With tie.After-plan-of
+abbrev plan : With tie.At-loop10 → With tie.After-plan-of
 plan c = amend c .before .before
 
-abbrev id : With tie.At-loop9 → EventId
+abbrev id : With tie.At-loop10 → EventId
 id c = amend c .plan5 .given .0 .0
 
-abbrev edit : With tie.At-loop9 → Edit
+abbrev edit : With tie.At-loop10 → Edit
 edit c = amend c .plan5 .given .0 .1 .0
 
 -- from where a stored edit has been sought: the test of the event's place, and the first search
-abbrev silent-event : With tie.At-loop10 → With tie.Else14
+abbrev silent-event : With tie.At-loop11 → With tie.Else14
 silent-event c = c .before .before .before .before
 
-abbrev events : With tie.At-loop10 → With tie.At-loop9
+abbrev events : With tie.At-loop11 → With tie.At-loop10
 events c = silent-event c .before .before
 
 -- what an edit means, and the refusal in what is left of the record
-amends : (c : With tie.At-loop9) → Called (plan c) (Amend (id c) (edit c))
+amends : (c : With tie.At-loop10) → Called (plan c) (Amend (id c) (edit c))
 amends c = told (plan c) (amend c .plan5 .given .1)
 
 refusal-is : (p : With tie.After-plan-of) {m n : ℕ} → n ≡ m → withRefusal m (silentLeft (kind p)) ≡ withRefusal n (silentLeft (kind p))
@@ -53,28 +53,28 @@ refusal-is p e = ap (λ (n : ℕ). withRefusal n (silentLeft (kind p))) (sym e)
 
 -- ---- the event is sought
 
-pub loop9-holds : With tie.Need-loop9-holds
-loop9-holds c =
+pub loop10-holds : With tie.Need-loop10-holds
+loop10-holds c =
     let s = beginning (c .before .before .before .before) .loop .s in
     (counted-few (s .«active_len») (c .counted2 .ensures), seeking-id s _ (c .counted2 .ensures))
 
-pub loop9-again : With tie.Need-loop9-again
-loop9-again c =
+pub loop10-again : With tie.Need-loop10-again
+loop10-again c =
     let t = c .before .before .before .before in
-    let l = t .before .loop9 in
-    (l .inv .0, seeking-on noId (isId (id (t .before))) _ _ _ _ (t .loop9-test .taken) (ne-eqb _ _ (c .if13 .left)) (l .inv .1))
+    let l = t .before .loop10 in
+    (l .inv .0, seeking-on noId (isId (id (t .before))) _ _ _ _ (t .loop10-test .taken) (ne-eqb _ _ (c .if13 .left)) (l .inv .1))
 
-sought-id : (c : With tie.Left-loop9)
-    → Sought (c .before .before .counted2 .result) (c .before .loop9 .i) (foundId (indexOf (beginning (plan (c .before)) .loop .s)) (id (c .before)))
+sought-id : (c : With tie.Left-loop10)
+    → Sought (c .before .before .counted2 .result) (c .before .loop10 .i) (foundId (indexOf (beginning (plan (c .before)) .loop .s)) (id (c .before)))
 sought-id c =
-    let v = c .before .loop9 .inv .1 in
-    ⊎-elim (λ w. sought-end (w .left) v) (λ w. sought-at (w .0 .taken) (eq-eqb _ _ (w .4 .taken)) v) (c .loop9-test .came)
+    let v = c .before .loop10 .inv .1 in
+    ⊎-elim (λ w. sought-end (w .left) v) (λ w. sought-at (w .0 .taken) (eq-eqb _ _ (w .4 .taken)) v) (c .loop10-test .came)
 
 -- ---- it sounds
 
 -- its place is in the array
-within : (c : With tie.Then14) → c .before .before .loop9 .i < 256
-within c = omega (arith, c .if14 .taken, c .before .before .loop9 .inv .0)
+within : (c : With tie.Then14) → c .before .before .loop10 .i < 256
+within c = omega (arith, c .if14 .taken, c .before .before .loop10 .inv .0)
 
 pub mul-event-6 : With tie.Need-mul-event-6
 mul-event-6 c = let h = within c in search needs
@@ -102,29 +102,29 @@ loop-again-5 c =
 
 -- ---- it does not sound, and a stored edit is sought
 
-pub loop10-holds : With tie.Need-loop10-holds
-loop10-holds c =
+pub loop11-holds : With tie.Need-loop11-holds
+loop11-holds c =
     let m = beginning (plan (c .before .before .before .before .before)) .loop .edits in
     (counted-few (m .len) (c .counted3 .ensures), seeking-edit m _ (c .counted3 .ensures))
 
-pub loop10-again : With tie.Need-loop10-again
-loop10-again c =
+pub loop11-again : With tie.Need-loop11-again
+loop11-again c =
     let t = c .before .before .before .before .before in
-    let l = t .before .loop10 in
-    (l .inv .0, seeking-on noEdit (isEdit (id (events (t .before)))) _ _ _ _ (t .loop10-test .taken) (ne-eqb _ _ (c .if16 .left)) (l .inv .1))
+    let l = t .before .loop11 in
+    (l .inv .0, seeking-on noEdit (isEdit (id (events (t .before)))) _ _ _ _ (t .loop11-test .taken) (ne-eqb _ _ (c .if16 .left)) (l .inv .1))
 
-sought-stored : (c : With tie.Left-loop10)
-    → (let a = events (c .before) in Sought (c .before .before .counted3 .result) (c .before .loop10 .j) (placed (beginning (plan a) .loop .edits) (id a)))
+sought-stored : (c : With tie.Left-loop11)
+    → (let a = events (c .before) in Sought (c .before .before .counted3 .result) (c .before .loop11 .j) (placed (beginning (plan a) .loop .edits) (id a)))
 sought-stored c =
-    let v = c .before .loop10 .inv .1 in
-    ⊎-elim (λ w. sought-end (w .left) v) (λ w. sought-at (w .0 .taken) (eq-eqb _ _ (w .5 .taken)) v) (c .loop10-test .came)
+    let v = c .before .loop11 .inv .1 in
+    ⊎-elim (λ w. sought-end (w .left) v) (λ w. sought-at (w .0 .taken) (eq-eqb _ _ (w .5 .taken)) v) (c .loop11-test .came)
 
 -- the event does not sound, and the edit is not past
-unsounding : (c : With tie.Left-loop10)
+unsounding : (c : With tie.Left-loop11)
     → (let a = events (c .before) in foundId (indexOf (beginning (plan a) .loop .s)) (id a) ≡ Nothing)
 unsounding c = let e = silent-event (c .before) in sym (sought-id (e .before) .1 (e .if14 .left))
 
-unpast : (c : With tie.Left-loop10)
+unpast : (c : With tie.Left-loop11)
     → (let a = events (c .before) in (edit a .«end_time» <ᶠ beginning (plan a) .loop .s .«active_threshold») ≡ false)
 unpast c = not-true _ (c .before .before .before .if15 .taken)
 
@@ -208,8 +208,8 @@ element-copy-out-x c = search needs
 pub add-i : With tie.Need-add-i
 add-i c = search needs
 
-pub loop9-less : With tie.Need-loop9-less
-loop9-less c = search needs
+pub loop10-less : With tie.Need-loop10-less
+loop10-less c = search needs
 
 pub mul-stored-3 : With tie.Need-mul-stored-3
 mul-stored-3 c = search needs
@@ -220,8 +220,8 @@ element-copy-out-stored-3 c = search needs
 pub add-j-3 : With tie.Need-add-j-3
 add-j-3 c = search needs
 
-pub loop10-less : With tie.Need-loop10-less
-loop10-less c = search needs
+pub loop11-less : With tie.Need-loop11-less
+loop11-less c = search needs
 
 pub mul-new : With tie.Need-mul-new
 mul-new c = search needs

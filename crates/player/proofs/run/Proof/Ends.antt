@@ -1,4 +1,4 @@
--- A tick or block, second part: every sounding event that ends gives its place to the last, and goes to those that are finished (loop7).
+-- A tick or block, second part: every sounding event that ends gives its place to the last, and goes to those that are finished (loop8).
 use borrow.Author.Needs.{needs}
 use mathlib.Core.Path.{refl, sym, _∙_}
 use Prim.Native.Nat.{_≤_, _<_, _-_}
@@ -15,7 +15,7 @@ use Rattle.player.proofs.run.Proof.Places.{}
 -- ---- the places of a round
 
 -- the round's beginning, from its test, from the arm of an event that ends, and from the end of that arm
-abbrev place : With tie.Then10 → With tie.At-loop7
+abbrev place : With tie.Then10 → With tie.At-loop8
 place c = c .before .before
 
 abbrev ends : With tie.Then11 → With tie.Then10
@@ -25,23 +25,23 @@ abbrev moved : With tie.After-id3 → With tie.Then11
 moved c = c .before .before .before .before
 
 -- from there: the beginning of the first part, the step, and the engine with its edits put back
-abbrev before-it : With tie.At-loop7 → With tie.At-loop3
+abbrev before-it : With tie.At-loop8 → With tie.At-loop3
 before-it c = c .before .before .before .before
 
-abbrev step : With tie.At-loop7 → Step
+abbrev step : With tie.At-loop8 → Step
 step c = before-it c .before .before .before .before .plan4 .given .0 .0
 
-abbrev now-in : With tie.At-loop7 → Sequencer
-now-in c = withEdits (c .loop7 .s) (before-it c .loop3 .edits)
+abbrev now-in : With tie.At-loop8 → Sequencer
+now-in c = withEdits (c .loop8 .s) (before-it c .loop3 .edits)
 
 -- ---- the loop
 
-pub loop7-holds : With tie.Need-loop7-holds
+pub loop8-holds : With tie.Need-loop8-holds
 unfolding activeToPast
-loop7-holds c = record { fuel = c .before .before .before .loop3 .s .«active_len»; enough = omega arith; gives = refl }
+loop8-holds c = record { fuel = c .before .before .before .loop3 .s .«active_len»; enough = omega arith; gives = refl }
 
 -- place i holds an event
-inside : (c : With tie.Then10) → (let l = place c .loop7 in (l .i < l .s .«active_len») × (l .s .«active_len» ≤ 256))
+inside : (c : With tie.Then10) → (let l = place c .loop8 in (l .i < l .s .«active_len») × (l .s .«active_len» ≤ 256))
 inside c = within-true _ _ (sym (c .before .within .ensures) ∙ c .if10 .taken)
 
 pub mul-event-4 : With tie.Need-mul-event-4
@@ -87,51 +87,51 @@ element-set-from-id-3 c = let h = inside (ends (moved c)) in search needs
 
 -- the place stays, and fewer sound
 fewer : (c : With tie.After-id3)
-    → (let l = place (ends (moved c)) .loop7 in l .s .«active_len» - 1 - c .before .before .before .after .result < l .s .«active_len» - l .i)
+    → (let l = place (ends (moved c)) .loop8 in l .s .«active_len» - 1 - c .before .before .before .after .result < l .s .«active_len» - l .i)
 fewer c =
     let d = ends (moved c) in
     let h = inside d in
-    let e = after-same (place d .loop7 .i) (c .before .before .before .after .ensures) (moved c .if11 .taken) in
+    let e = after-same (place d .loop8 .i) (c .before .before .before .after .ensures) (moved c .if11 .taken) in
     omega arith
 
-pub loop7-less : With tie.Need-loop7-less
-loop7-less c = fewer (c .before)
+pub loop8-less : With tie.Need-loop8-less
+loop8-less c = fewer (c .before)
 
-pub loop7-again : With tie.Need-loop7-again
-loop7-again c =
+pub loop8-again : With tie.Need-loop8-again
+loop8-again c =
     let t = moved (c .before) in
     let d = ends t in
     let h = inside d in
     let p = place d in
-    ended-room (step p .limit) (now-in p) (p .loop7 .i) _ (c .before .before .before .before .after .ensures) (h .0) (h .1) (t .if11 .taken) (c .if12 .taken) (p .loop7 .inv)
+    ended-room (step p .limit) (now-in p) (p .loop8 .i) _ (c .before .before .before .before .after .ensures) (h .0) (h .1) (t .if11 .taken) (c .if12 .taken) (p .loop8 .inv)
 
-pub loop7-less-2 : With tie.Need-loop7-less-2
-loop7-less-2 c = fewer (c .before)
+pub loop8-less-2 : With tie.Need-loop8-less-2
+loop8-less-2 c = fewer (c .before)
 
-pub loop7-again-2 : With tie.Need-loop7-again-2
-loop7-again-2 c =
+pub loop8-again-2 : With tie.Need-loop8-again-2
+loop8-again-2 c =
     let t = moved (c .before) in
     let d = ends t in
     let h = inside d in
     let p = place d in
-    ended-full (step p .limit) (now-in p) (p .loop7 .i) _ (c .before .before .before .before .after .ensures) (h .0) (h .1) (t .if11 .taken) (c .if12 .left) (p .loop7 .inv)
+    ended-full (step p .limit) (now-in p) (p .loop8 .i) _ (c .before .before .before .before .after .ensures) (h .0) (h .1) (t .if11 .taken) (c .if12 .left) (p .loop8 .inv)
 
 -- ---- the event sounds on
 
 abbrev sounds : With tie.After-after2 → With tie.Then10
 sounds c = c .before .before .before .before .before
 
-pub loop7-less-3 : With tie.Need-loop7-less-3
-loop7-less-3 c =
+pub loop8-less-3 : With tie.Need-loop8-less-3
+loop8-less-3 c =
     let h = inside (sounds c) in
-    let e = after-next (place (sounds c) .loop7 .i) (c .after2 .ensures) (c .before .if11 .left) (omega (arith, h .0, h .1)) in
+    let e = after-next (place (sounds c) .loop8 .i) (c .after2 .ensures) (c .before .if11 .left) (omega (arith, h .0, h .1)) in
     omega arith
 
-pub loop7-again-3 : With tie.Need-loop7-again-3
-loop7-again-3 c =
+pub loop8-again-3 : With tie.Need-loop8-again-3
+loop8-again-3 c =
     let h = inside (sounds c) in
     let p = place (sounds c) in
-    not-ended (step p .limit) (now-in p) (p .loop7 .i) _ (c .after2 .ensures) (h .0) (h .1) (c .before .if11 .left) (p .loop7 .inv)
+    not-ended (step p .limit) (now-in p) (p .loop8 .i) _ (c .after2 .ensures) (h .0) (h .1) (c .before .if11 .left) (p .loop8 .inv)
 
 -- ---- what is found, each by itself: together they are too many for one search
 

@@ -12,7 +12,7 @@ use Rattle.mixing.specs.Blocks.{clearedPlaces}
 use Rattle.sequencer.specs.Parts.{withEdits}
 use Rattle.sequencer.specs.Edits.{indexOf}
 use Rattle.sequencer.specs.Moves.{readyToActive, activeToPast, toReady}
-use Rattle.sequencer.specs.Rounds.{RisingIn, SinkingIn}
+use Rattle.sequencer.specs.Rounds.{RisingFrom, RisingIn, SinkingIn}
 use Rattle.sequencer.specs.Turns.{Activating, Finishing, Readying, Rewinding}
 use Rattle.sequencer.specs.Passing.{Passing}
 use Rattle.plans.specs.Sounding.{soundedEvent, soundedRow}
@@ -54,69 +54,76 @@ Inv-loop5 tape whole pool form out s edits₀ cursor mix left at kind step id ev
 abbrev pub μ-loop5 : tie.MeasureT-loop5
 μ-loop5 tape whole pool form out s edits₀ cursor mix left at kind step id event known j₀ m edits j = m - j
 
--- loop6: the heap's last goes down from the first place
+-- loop6: the first leaves the heap, and its place is filled from below
 abbrev pub Inv-loop6 : tie.InvT-loop6
 Inv-loop6 tape whole pool form out s₀ edits cursor mix left at kind step id event known j m last i₀ s i = (m < 256) × SinkingIn s₀ i s
 
 abbrev pub μ-loop6 : tie.MeasureT-loop6
 μ-loop6 tape whole pool form out s₀ edits cursor mix left at kind step id event known j m last i₀ s i = m - i
 
--- loop7: the sounding events that end go to those that are finished
+-- loop7: from where that ends the last goes up
 abbrev pub Inv-loop7 : tie.InvT-loop7
-Inv-loop7 tape whole pool form out s₀ edits cursor mix left at kind step i₀ s i = Finishing (step .limit) (withEdits s edits) i (activeToPast (withEdits s₀ edits) (step .limit))
+Inv-loop7 tape whole pool form out s₀ edits cursor mix left at kind step id event known j m last i₀ s i = (m < 256) × (i₀ ≤ m) × RisingFrom s₀ i₀ last i s
 
 abbrev pub μ-loop7 : tie.MeasureT-loop7
-μ-loop7 tape whole pool form out s₀ edits cursor mix left at kind step i₀ s i = s .«active_len» - i
+μ-loop7 tape whole pool form out s₀ edits cursor mix left at kind step id event known j m last i₀ s i = i
 
--- loop8: the samples of those that sound are added into the row
+-- loop8: the sounding events that end go to those that are finished
 abbrev pub Inv-loop8 : tie.InvT-loop8
-Inv-loop8 tape whole pool form out s₀ edits cursor mix₀ left at kind step i m w k₀ s mix k =
-    Passing (soundedEvent step) (soundedRow pool step) (replicate (clearedPlaces (step .size)) zeroᶠ) Forward (withEdits s₀ edits) m k (withEdits s edits) (take w mix) × (length mix ≡ 64)
+Inv-loop8 tape whole pool form out s₀ edits cursor mix left at kind step i₀ s i = Finishing (step .limit) (withEdits s edits) i (activeToPast (withEdits s₀ edits) (step .limit))
 
 abbrev pub μ-loop8 : tie.MeasureT-loop8
-μ-loop8 tape whole pool form out s₀ edits cursor mix₀ left at kind step i m w k₀ s mix k = m - k
+μ-loop8 tape whole pool form out s₀ edits cursor mix left at kind step i₀ s i = s .«active_len» - i
 
--- loop9: an edit: its event is sought among those that sound
+-- loop9: the samples of those that sound are added into the row
 abbrev pub Inv-loop9 : tie.InvT-loop9
-Inv-loop9 tape whole pool form out s edits cursor mix left at kind id edit sounding i₀ i = (sounding ≤ 256) × Seeking noId (isId id) sounding (s .«active_map») i (foundId (indexOf s) id)
+Inv-loop9 tape whole pool form out s₀ edits cursor mix₀ left at kind step i m w k₀ s mix k =
+    Passing (soundedEvent step) (soundedRow pool step) (replicate (clearedPlaces (step .size)) zeroᶠ) Forward (withEdits s₀ edits) m k (withEdits s edits) (take w mix) × (length mix ≡ 64)
 
 abbrev pub μ-loop9 : tie.MeasureT-loop9
-μ-loop9 tape whole pool form out s edits cursor mix left at kind id edit sounding i₀ i = sounding - i
+μ-loop9 tape whole pool form out s₀ edits cursor mix₀ left at kind step i m w k₀ s mix k = m - k
 
--- loop10: a stored edit of the event is sought
+-- loop10: an edit: its event is sought among those that sound
 abbrev pub Inv-loop10 : tie.InvT-loop10
-Inv-loop10 tape whole pool form out s edits cursor mix left at kind id edit sounding i known j₀ j = (known ≤ 256) × Seeking noEdit (isEdit id) known (edits .items) j (placed edits id)
+Inv-loop10 tape whole pool form out s edits cursor mix left at kind id edit sounding i₀ i = (sounding ≤ 256) × Seeking noId (isId id) sounding (s .«active_map») i (foundId (indexOf s) id)
 
 abbrev pub μ-loop10 : tie.MeasureT-loop10
-μ-loop10 tape whole pool form out s edits cursor mix left at kind id edit sounding i known j₀ j = known - j
+μ-loop10 tape whole pool form out s edits cursor mix left at kind id edit sounding i₀ i = sounding - i
 
--- loop11: a reset or another rate: the finished and then the sounding events go to the heap
+-- loop11: a stored edit of the event is sought
 abbrev pub Inv-loop11 : tie.InvT-loop11
-Inv-loop11 tape whole pool form out s₀ edits cursor mix left at kind after past held k₀ s k = (past ≤ 256) × (held ≤ past + 256) × Readying held past k (withEdits s edits) (toReady held past 0 (withEdits s₀ edits))
+Inv-loop11 tape whole pool form out s edits cursor mix left at kind id edit sounding i known j₀ j = (known ≤ 256) × Seeking noEdit (isEdit id) known (edits .items) j (placed edits id)
 
 abbrev pub μ-loop11 : tie.MeasureT-loop11
-μ-loop11 tape whole pool form out s₀ edits cursor mix left at kind after past held k₀ s k = held - k
+μ-loop11 tape whole pool form out s edits cursor mix left at kind id edit sounding i known j₀ j = known - j
 
--- loop12: each goes up the heap
+-- loop12: a reset or another rate: the finished and then the sounding events go to the heap
 abbrev pub Inv-loop12 : tie.InvT-loop12
-Inv-loop12 tape whole pool form out s₀ edits cursor mix left at kind after past held k event n j₀ s j = (n < 256) × RisingIn s₀ event j s
+Inv-loop12 tape whole pool form out s₀ edits cursor mix left at kind after past held k₀ s k = (past ≤ 256) × (held ≤ past + 256) × Readying held past k (withEdits s edits) (toReady held past 0 (withEdits s₀ edits))
 
 abbrev pub μ-loop12 : tie.MeasureT-loop12
-μ-loop12 tape whole pool form out s₀ edits cursor mix left at kind after past held k event n j₀ s j = j
+μ-loop12 tape whole pool form out s₀ edits cursor mix left at kind after past held k₀ s k = held - k
 
--- loop13: their sources are rewound
+-- loop13: each goes up the heap
 abbrev pub Inv-loop13 : tie.InvT-loop13
-Inv-loop13 tape whole pool form out s₀ edits cursor mix left at kind after past held k₁ waiting k₀ s k = (waiting ≤ 256) × Rewinding (withEdits s₀ edits) waiting k (withEdits s edits)
+Inv-loop13 tape whole pool form out s₀ edits cursor mix left at kind after past held k event n j₀ s j = (n < 256) × RisingIn s₀ event j s
 
 abbrev pub μ-loop13 : tie.MeasureT-loop13
-μ-loop13 tape whole pool form out s₀ edits cursor mix left at kind after past held k₁ waiting k₀ s k = waiting - k
+μ-loop13 tape whole pool form out s₀ edits cursor mix left at kind after past held k event n j₀ s j = j
+
+-- loop14: their sources are rewound
+abbrev pub Inv-loop14 : tie.InvT-loop14
+Inv-loop14 tape whole pool form out s₀ edits cursor mix left at kind after past held k₁ waiting k₀ s k = (waiting ≤ 256) × Rewinding (withEdits s₀ edits) waiting k (withEdits s edits)
+
+abbrev pub μ-loop14 : tie.MeasureT-loop14
+μ-loop14 tape whole pool form out s₀ edits cursor mix left at kind after past held k₁ waiting k₀ s k = waiting - k
 
 -- a place of the code, or what is asked there, with these invariants
 abbrev pub With : (tie.InvT-loop2 → tie.MeasureT-loop2 → tie.InvT-loop4 → tie.MeasureT-loop4 → tie.InvT-loop5 → tie.MeasureT-loop5
-    → tie.InvT-loop6 → tie.MeasureT-loop6 → tie.InvT-loop3 → tie.MeasureT-loop3 → tie.InvT-loop7 → tie.MeasureT-loop7
-    → tie.InvT-loop8 → tie.MeasureT-loop8 → tie.InvT-loop9 → tie.MeasureT-loop9 → tie.InvT-loop10 → tie.MeasureT-loop10
-    → tie.InvT-loop12 → tie.MeasureT-loop12 → tie.InvT-loop11 → tie.MeasureT-loop11 → tie.InvT-loop13 → tie.MeasureT-loop13
+    → tie.InvT-loop6 → tie.MeasureT-loop6 → tie.InvT-loop7 → tie.MeasureT-loop7 → tie.InvT-loop3 → tie.MeasureT-loop3 → tie.InvT-loop8 → tie.MeasureT-loop8
+    → tie.InvT-loop9 → tie.MeasureT-loop9 → tie.InvT-loop10 → tie.MeasureT-loop10 → tie.InvT-loop11 → tie.MeasureT-loop11
+    → tie.InvT-loop13 → tie.MeasureT-loop13 → tie.InvT-loop12 → tie.MeasureT-loop12 → tie.InvT-loop14 → tie.MeasureT-loop14
     → tie.InvT-loop → tie.MeasureT-loop → Type 0) → Type 0
 With f =
-    f Inv-loop2 μ-loop2 Inv-loop4 μ-loop4 Inv-loop5 μ-loop5 Inv-loop6 μ-loop6 Inv-loop3 μ-loop3 Inv-loop7 μ-loop7 Inv-loop8 μ-loop8
-    Inv-loop9 μ-loop9 Inv-loop10 μ-loop10 Inv-loop12 μ-loop12 Inv-loop11 μ-loop11 Inv-loop13 μ-loop13 Inv-loop μ-loop
+    f Inv-loop2 μ-loop2 Inv-loop4 μ-loop4 Inv-loop5 μ-loop5 Inv-loop6 μ-loop6 Inv-loop7 μ-loop7 Inv-loop3 μ-loop3 Inv-loop8 μ-loop8 Inv-loop9 μ-loop9
+    Inv-loop10 μ-loop10 Inv-loop11 μ-loop11 Inv-loop13 μ-loop13 Inv-loop12 μ-loop12 Inv-loop14 μ-loop14 Inv-loop μ-loop

@@ -1,4 +1,4 @@
--- A tick or block, last part: the samples of the events that sound are added into one row (loop8), and the record leaves that row.
+-- A tick or block, last part: the samples of the events that sound are added into one row (loop9), and the record leaves that row.
 use borrow.Author.Needs.{needs}
 use borrow.Author.Tests.{not-true}
 use borrow.Rule.Slice.PartMut.{same-len-mid}
@@ -31,7 +31,7 @@ use Rattle.player.proofs.run.Proof.Places.{going, leaving, beginning, k
 -- ---- the places
 
 -- from where no event ends any more: the second part's beginning, the first part's, and the plan
-abbrev ends : With tie.Else10 → With tie.At-loop7
+abbrev ends : With tie.Else10 → With tie.At-loop8
 ends c = c .before .before
 
 abbrev starts : With tie.Else10 → With tie.At-loop3
@@ -43,11 +43,11 @@ render c = starts c .before .before .before .before
 abbrev plan : With tie.Else10 → With tie.After-plan-of
 plan c = render c .before .before
 
--- from a turn of loop8: where no event ends any more, and the width of the row
-abbrev still : With tie.At-loop8 → With tie.Else10
+-- from a turn of loop9: where no event ends any more, and the width of the row
+abbrev still : With tie.At-loop9 → With tie.Else10
 still c = c .before .before .before .before .before .before
 
-abbrev cleared : With tie.At-loop8 → With tie.After-cleared-places
+abbrev cleared : With tie.At-loop9 → With tie.After-cleared-places
 cleared c = c .before .before .before .before
 
 -- the step
@@ -57,15 +57,15 @@ step c = render c .plan4 .given .0 .0
 -- ---- the lists have changed, and the clock
 
 advanced-to : (c : With tie.Else10)
-    → (let u = withEdits (ends c .loop7 .s) (starts c .loop3 .edits) in withTimes u (step c .end) (u .«active_threshold») ≡ advancedIn (step c) (engine (plan c)))
+    → (let u = withEdits (ends c .loop8 .s) (starts c .loop3 .edits) in withTimes u (step c .end) (u .«active_threshold») ≡ advancedIn (step c) (engine (plan c)))
 advanced-to c =
     let t = withEdits (starts c .loop3 .s) (starts c .loop3 .edits) in
-    let u = withEdits (ends c .loop7 .s) (starts c .loop3 .edits) in
+    let u = withEdits (ends c .loop8 .s) (starts c .loop3 .edits) in
     let e = ends c .before in
     advanced-by (step c) (engine (plan c)) _ t u
     (begun (step c) (engine (plan c)) (starts c .before .before .gone .ensures) (starts c .before .kept .ensures))
     (starts-false t _ (sym (e .before .starts .ensures) ∙ not-true _ (e .if5 .taken)) (starts c .loop3 .inv))
-    (within-false _ u _ _ (sym (c .before .within .ensures) ∙ c .if10 .left) (ends c .loop7 .inv))
+    (within-false _ u _ _ (sym (c .before .within .ensures) ∙ c .if10 .left) (ends c .loop8 .inv))
 
 -- ---- the row is cleared
 
@@ -73,9 +73,9 @@ advanced-to c =
 pub part-mix-end : With tie.Need-part-mix-end
 part-mix-end c = omega (arith, c .cleared-places .ensures, beginning (plan (c .before .before)) .loop .inv .wide)
 
-pub loop8-holds : With tie.Need-loop8-holds
+pub loop9-holds : With tie.Need-loop9-holds
 unfolding ofBits
-loop8-holds c =
+loop9-holds c =
     let w = c .before .before .before in
     let d = w .before .before in
     let l = beginning (plan d) .loop in
@@ -93,8 +93,8 @@ loop8-holds c =
 -- ---- an event's samples are added
 
 -- the event stands in the array
-within : (c : With tie.In-loop8) → c .before .loop8 .k < 256
-within c = omega (arith, c .before .loop8 .inv .0 .count, c .loop8-test .taken)
+within : (c : With tie.In-loop9) → c .before .loop9 .k < 256
+within c = omega (arith, c .before .loop9 .inv .0 .count, c .loop9-test .taken)
 
 pub mul-event-5 : With tie.Need-mul-event-5
 mul-event-5 c = omega (arith, within c)
@@ -103,7 +103,7 @@ pub element-copy-out-event-2 : With tie.Need-element-copy-out-event-2
 element-copy-out-event-2 c = omega (arith, within c)
 
 pub part-mix-end-2 : With tie.Need-part-mix-end-2
-part-mix-end-2 c = omega (arith, cleared (c .before .before) .cleared-places .ensures, c .before .before .loop8 .inv .1)
+part-mix-end-2 c = omega (arith, cleared (c .before .before) .cleared-places .ensures, c .before .before .loop9 .inv .1)
 
 pub mul-s : With tie.Need-mul-s
 mul-s c = omega (arith, within (c .before .before .before .before))
@@ -118,19 +118,19 @@ pub way-write-given-s-2 : With tie.Need-way-write-given-s-2
 way-write-given-s-2 c = let h = within (c .before .before .before .before .before) in omega (arith, h)
 
 -- from the end of a turn: its beginning's test
-abbrev tested : With tie.After-s2 → With tie.In-loop8
+abbrev tested : With tie.After-s2 → With tie.In-loop9
 tested c = c .before .before .before .before .before .before
 
 pub add-k : With tie.Need-add-k
 add-k c = record { fits = omega (arith, within (tested c)) }
 
-pub loop8-less : With tie.Need-loop8-less
-loop8-less c = omega (arith, tested c .loop8-test .taken)
+pub loop9-less : With tie.Need-loop9-less
+loop9-less c = omega (arith, tested c .loop9-test .taken)
 
-pub loop8-again : With tie.Need-loop8-again
-loop8-again c =
+pub loop9-again : With tie.Need-loop9-again
+loop9-again c =
     let a = tested c .before in
-    let l = a .loop8 in
+    let l = a .loop9 in
     let w = cleared a .cleared-places in
     let k = w .result in
     let b = step (still a) in
@@ -140,14 +140,14 @@ loop8-again c =
     let h : k ≤ length (l .mix) = omega (arith, w .ensures, l .inv .1) in
     let q : take k (ys ++ drop (k - 0) (l .mix)) ≡ ys = take-at ys (drop (k - 0) (l .mix)) k (kept ∙ rw sub-zero (length-take-le k (l .mix) h)) in
     let v : ys ≡ soundedRow (pool (plan (still a))) b (take k (l .mix)) (getD (l .s .active) (l .k) blank) = r .ensures .1 ∙ rw sub-zero in
-    (passing-moved b (r .ensures .0) (q ∙ v) (tested c .loop8-test .taken) (l .inv .0), same-len-mid 0 (k - 0) (l .mix) ys kept ∙ l .inv .1)
+    (passing-moved b (r .ensures .0) (q ∙ v) (tested c .loop9-test .taken) (l .inv .0), same-len-mid 0 (k - 0) (l .mix) ys kept ∙ l .inv .1)
 
 -- ---- every event has been added
 
-summed : (c : With tie.After-loop8)
-    → (let d = still (c .before) in let p = pool (plan d) in let s = engine (plan d) in let l = c .before .loop8 in
+summed : (c : With tie.After-loop9)
+    → (let d = still (c .before) in let p = pool (plan d) in let s = engine (plan d) in let l = c .before .loop9 in
     (withEdits (l .s) (starts d .loop3 .edits) ≡ renderedIn p (step d) s) × (take (cleared (c .before) .cleared-places .result) (l .mix) ≡ rowIn p (step d) s))
-summed c = passing-end (advanced-to (still (c .before))) (c .loop8-test .left) (c .before .loop8 .inv .0)
+summed c = passing-end (advanced-to (still (c .before))) (c .loop9-test .left) (c .before .loop9 .inv .0)
 
 pub loop-less-4 : With tie.Need-loop-less-4
 loop-less-4 c = less (plan (still (c .before)))
@@ -162,7 +162,7 @@ loop-again-4 c =
     let p = plan d in
     let b = step d in
     let s = engine p in
-    let l = c .before .loop8 in
+    let l = c .before .loop9 in
     let mix = l .mix in
     let w = cleared (c .before) .cleared-places in
     let k = w .result in

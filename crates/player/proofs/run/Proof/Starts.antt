@@ -1,5 +1,5 @@
 -- A tick or block, first part: every waiting event that starts is taken from the heap with its edit, and sounds (loop3).
--- Its edit is sought (loop4), and those behind it move up (loop5); the heap's last sinks from the first place (loop6).
+-- Its edit is sought (loop4), and those behind it move up (loop5); the heap's first place is filled from below (loop6), and its last rises from where that ends (loop7).
 use borrow.Author.Needs.{needs}
 use borrow.Author.Tests.{eq-eqb, ne-eqb, not-true, not-false}
 use mathlib.Core.Path.{_≡_, refl, sym, ap, _∙_}
@@ -16,7 +16,7 @@ use Rattle.lists.specs.Rounds.{seeking-on, shifting-on, shifted}
 use Rattle.sequencer.specs.declared.Sequencer.{Sequencer}
 use Rattle.sequencer.specs.Parts.{withReady, withEdits}
 use Rattle.sequencer.specs.Moves.{poppedReady, readyToActive}
-use Rattle.sequencer.specs.Rounds.{lastPlace, lastOf, sinking-in, sinking-in-on, sunk-in-end, sunk-in-stop}
+use Rattle.sequencer.specs.Rounds.{lastPlace, lastOf, sinking-in, sinking-in-on, rising-in, rising-in-on, popped-root, popped-stop}
 use Rattle.sequencer.specs.Turns.{Taking, activating-room, activating-full}
 use Rattle.plan_meaning.specs.Arms.{popped-beside, counted-few, seeking-edit, starts-true, taken-is, taking-at, taking-no, child-is, child-between}
 use Rattle.player.proofs.Searching.{Sought, sought-at, sought-end}
@@ -102,7 +102,7 @@ taking c =
     (λ w. taken-is s m f (w .1) (w .2) (taking-no s m f (q .1 (w .0 .left))))
     (c .if7 .came)
 
--- ---- the heap's last sinks
+-- ---- the heap's first place is filled from below
 
 sized : (c : With tie.Joined7) → (let n = taken-in c .loop3 .s .«ready_len» in (0 < n) × (n ≤ 256))
 sized c = let h = started (starting c) in (h .0, h .1)
@@ -132,38 +132,50 @@ pub element-copy-out-child : With tie.Need-element-copy-out-child
 element-copy-out-child c = let h = between c in search needs
 
 pub loop6-less : With tie.Need-loop6-less
-loop6-less c = let h = between (c .before .before .before) in omega arith
+loop6-less c = let h = between (c .before) in omega arith
 
 pub loop6-again : With tie.Need-loop6-again
 loop6-again c =
-    let d = c .before .before .before in
+    let d = c .before in
     let t = d .before .before .before in
     let l = t .before .loop6 in
     let h = between d in
-    (l .inv .0, sinking-in-on (t .loop6-test .taken) (child-is (l .s .ready) _ _ _ (d .lesser-child .ensures)) (omega arith) refl (sym (c .before .precedes2 .ensures) ∙ not-false _ (c .if8 .left)) (l .inv .1))
+    (l .inv .0, sinking-in-on (t .loop6-test .taken) (child-is (l .s .ready) _ _ _ (d .lesser-child .ensures)) (omega arith) refl (l .inv .1))
 
--- the heap once the last has sunk, and the engine with that heap
-popped : (c : With tie.Left-loop6)
-    → (let l = c .before .loop6 in let t = taken-in (c .before .before .before) .loop3 .s in withReady (l .s) (set (l .s .ready) (l .i) (lastOf t)) (lastPlace t) ≡ poppedReady t)
+-- ---- its last rises from where that ends
+
+pub loop7-holds : With tie.Need-loop7-holds
+loop7-holds c = let v = c .before .loop6 .inv in (v .0, v .1 .inside, rising-in)
+
+pub loop7-again : With tie.Need-loop7-again
+loop7-again c =
+    let d = c .before .before in
+    let l = d .before .before .before .loop7 in
+    (l .inv .0, l .inv .1, rising-in-on (d .before .before .loop7-test .taken) (sym (d .precedes2 .ensures) ∙ not-false _ (c .before .if8 .left)) (l .inv .2))
+
+-- from where it has risen: where the edit had been taken
+abbrev had : With tie.Left-loop7 → With tie.Joined7
+had c = c .before .before .before .before .before
+
+-- the heap once the first has left, and the engine with that heap
+popped : (c : With tie.Left-loop7)
+    → (let l = c .before .loop7 in let t = taken-in (had c) .loop3 .s in withReady (l .s) (set (l .s .ready) (l .i) (lastOf t)) (lastPlace t) ≡ poppedReady t)
 popped c =
-    let k = sized (c .before .before .before) in
-    let l = c .before .loop6 in
-    ⊎-elim
-    (λ w. sunk-in-end (k .0) (k .1) (w .left) (l .inv .1))
-    (λ w. sunk-in-stop (k .0) (k .1) (child-is (l .s .ready) _ _ _ (w .3 .ensures)) refl (sym (w .5 .ensures) ∙ not-true _ (w .6 .taken)) (l .inv .1))
-    (c .loop6-test .came)
+    let k = sized (had c) in
+    let a = c .before .before in
+    let v = a .before .loop6 .inv .1 in
+    let r = c .before .loop7 .inv .2 in
+    ⊎-elim (λ w. popped-root (k .0) (k .1) (a .loop6-test .left) v r (w .left))
+    (λ w. popped-stop (k .0) (k .1) (a .loop6-test .left) v r (sym (w .2 .ensures) ∙ not-true _ (w .3 .taken))) (c .loop7-test .came)
 
-popped-in : (c : With tie.Left-loop6)
-    → (let l = c .before .loop6 in let d = c .before .before .before in let t = taken-in d .loop3 .s in let m = d .if7 .edits in
+popped-in : (c : With tie.Left-loop7)
+    → (let l = c .before .loop7 in let d = had c in let t = taken-in d .loop3 .s in let m = d .if7 .edits in
     withEdits (withReady (l .s) (set (l .s .ready) (l .i) (lastOf t)) (lastPlace t)) m ≡ poppedReady (withEdits t m))
 popped-in c =
-    let d = c .before .before .before in
+    let d = had c in
     ap (λ (y : Sequencer). withEdits y (d .if7 .edits)) (popped c) ∙ popped-beside (taken-in d .loop3 .s) (d .if7 .edits)
 
 -- ---- it sounds, where there is a place
-
-abbrev had : With tie.Left-loop6 → With tie.Joined7
-had c = c .before .before .before
 
 pub loop3-less : With tie.Need-loop3-less
 loop3-less c = omega (arith, started (starting (had (c .before))) .0)
@@ -242,14 +254,38 @@ mul-lesser-child c = search needs
 pub add-lesser-child : With tie.Need-add-lesser-child
 add-lesser-child c = search needs
 
-pub precedes-requires-2 : With tie.Need-precedes-requires-2
-precedes-requires-2 c = search needs
-
 pub mul-child-2 : With tie.Need-mul-child-2
 mul-child-2 c = search needs
 
 pub element-set-from-child : With tie.Need-element-set-from-child
 element-set-from-child c = search needs
+
+pub sub-p-2 : With tie.Need-sub-p-2
+sub-p-2 c = search needs
+
+pub mul-parent-3 : With tie.Need-mul-parent-3
+mul-parent-3 c = search needs
+
+pub element-copy-out-parent-2 : With tie.Need-element-copy-out-parent-2
+element-copy-out-parent-2 c = search needs
+
+pub precedes-requires-2 : With tie.Need-precedes-requires-2
+precedes-requires-2 c = search needs
+
+pub mul-parent-4 : With tie.Need-mul-parent-4
+mul-parent-4 c = search needs
+
+pub element-copy-out-parent-3 : With tie.Need-element-copy-out-parent-3
+element-copy-out-parent-3 c = search needs
+
+pub mul-parent-5 : With tie.Need-mul-parent-5
+mul-parent-5 c = search needs
+
+pub element-set-from-parent-2 : With tie.Need-element-set-from-parent-2
+element-set-from-parent-2 c = search needs
+
+pub loop7-less : With tie.Need-loop7-less
+loop7-less c = search needs
 
 pub mul-last-2 : With tie.Need-mul-last-2
 mul-last-2 c = search needs

@@ -1,4 +1,4 @@
--- A block's samples, and how its places came (loop5).
+-- A block's samples, and how its places came (loop6).
 use borrow.Author.Needs.{needs}
 use mathlib.Core.List.{List, _++_, _∷_}
 use mathlib.Core.Path.{_≡_, refl, sym, ap, ap₂, _∙_, subst}
@@ -51,23 +51,23 @@ Counted order n s c e = c ≡ passOf (afterBlock (until s n e)) (addPlaces (unti
 -- ---- the places of a round
 
 -- from the loop: how many places are cleared, the block's size, and where the sweep was left
-abbrev clearing : With tie.At-loop5 → With tie.After-cleared-places
+abbrev clearing : With tie.At-loop6 → With tie.After-cleared-places
 clearing c = c .before .before
 
-abbrev size : With tie.At-loop5 → ℕ
+abbrev size : With tie.At-loop6 → ℕ
 size c = clearing c .before .before .step .given .0 .0
 
-abbrev swept : With tie.At-loop5 → With tie.Left-loop3
+abbrev swept : With tie.At-loop6 → With tie.Left-loop4
 swept c = clearing c .before .before .before .before .before
 
-fits : (c : With tie.At-loop5) → clearing c .cleared-places .result ≤ length (c .loop5 .mix)
-fits c = omega (arith, clearing c .cleared-places .ensures, c .loop5 .inv .2)
+fits : (c : With tie.At-loop6) → clearing c .cleared-places .result ≤ length (c .loop6 .mix)
+fits c = omega (arith, clearing c .cleared-places .ensures, c .loop6 .inv .2)
 
 -- ---- the loop
 
-pub loop5-holds : With tie.Need-loop5-holds
+pub loop6-holds : With tie.Need-loop6-holds
 unfolding ofBits
-loop5-holds c =
+loop6-holds c =
     let counted = c .before .before .before .before .before .least .ensures in
     let k = c .before .cleared-places .result in (
       passing-start counted (take-replicate k 64 zeroᶠ (omega (arith, c .before .cleared-places .ensures)) ∙ ap (λ (n : ℕ). replicate n zeroᶠ) (c .before .cleared-places .ensures)),
@@ -83,7 +83,7 @@ abbrev mixed : With tie.After-mix2 → With tie.After-mix-place2
 mixed c = c .before .before .before .before
 
 inside : (c : With tie.After-mix-place2) → c .mix-place2 .result < 256
-inside c = omega (arith, c .before .before .loop5 .inv .0 .count, c .mix-place2 .ensures .1)
+inside c = omega (arith, c .before .before .loop6 .inv .0 .count, c .mix-place2 .ensures .1)
 
 pub mul-self : With tie.Need-mul-self
 mul-self c = let h = inside (mixed c) in search needs
@@ -97,25 +97,25 @@ mul-self-2 c = let h = inside (mixed (c .before)) in search needs
 pub way-write-given-self-2 : With tie.Need-way-write-given-self-2
 way-write-given-self-2 c = let h = inside (mixed (c .before)) in search needs
 
-pub loop5-again : With tie.Need-loop5-again
-loop5-again c =
+pub loop6-again : With tie.Need-loop6-again
+loop6-again c =
     let at-process-event = c .before .before .before .before in
     let at-mix-place = at-process-event .before .before .before in
-    let at-loop5-test = at-mix-place .before in
-    let at-loop5 = at-loop5-test .before in
-    let l = at-loop5 .loop5 in
-    let k = clearing at-loop5 .cleared-places .result in
+    let at-loop6-test = at-mix-place .before in
+    let at-loop6 = at-loop6-test .before in
+    let l = at-loop6 .loop6 in
+    let k = clearing at-loop6 .cleared-places .result in
     let r = at-process-event .process-event in
     let place = at-mix-place .mix-place2 .ensures .0 in
     let ys = r .last .1 .1 .1 .0 in
     let kept = r .kept .1 .1 .1 .0 in
-    let q : take k (ys ++ drop (k - 0) (l .mix)) ≡ ys = take-at ys (drop (k - 0) (l .mix)) k (kept ∙ rw sub-zero (length-take-le k (l .mix) (fits at-loop5))) in
-    let ends = swept at-loop5 in
-    let b = until (engine ends) (size at-loop5) (end ends) in
+    let q : take k (ys ++ drop (k - 0) (l .mix)) ≡ ys = take-at ys (drop (k - 0) (l .mix)) k (kept ∙ rw sub-zero (length-take-le k (l .mix) (fits at-loop6))) in
+    let ends = swept at-loop6 in
+    let b = until (engine ends) (size at-loop6) (end ends) in
     let pool = now (ends .before .before .before .before .before .before .before .before .before .args .pool) in
     let v : ys ≡ channelAfter pool b (getD (l .self .active) (at-mix-place .mix-place2 .result) blank) (take k (l .mix)) = r .ensures .1 ∙ rw sub-zero in (
-      passing-stored (source-moves b) place (r .ensures .0) (q ∙ v) (at-loop5-test .loop5-test .taken) (l .inv .0),
-      passing-stored (source-moves b) place (r .ensures .0) (c .count-places .ensures) (at-loop5-test .loop5-test .taken) (l .inv .1),
+      passing-stored (source-moves b) place (r .ensures .0) (q ∙ v) (at-loop6-test .loop6-test .taken) (l .inv .0),
+      passing-stored (source-moves b) place (r .ensures .0) (c .count-places .ensures) (at-loop6-test .loop6-test .taken) (l .inv .1),
       same-len-mid 0 (k - 0) (l .mix) ys kept ∙ l .inv .2,
     )
 
@@ -127,16 +127,16 @@ unfolding renderedBlock renderedBlockOut renderedPlaces blockPass placesPass ste
 returns-2 c =
     let laid = c .before .before in
     let left = laid .before .before .before .before in
-    let at-loop5 = left .before in
-    let l = at-loop5 .loop5 in
-    let k = clearing at-loop5 .cleared-places .result in
-    let ends = swept at-loop5 in
+    let at-loop6 = left .before in
+    let l = at-loop6 .loop6 in
+    let k = clearing at-loop6 .cleared-places .result in
+    let ends = swept at-loop6 in
     let a = ends .before .before .before .before .before .before .before .before .before .args in
     let out = now (a .out) in
-    let block = clearing at-loop5 .before .before .step .given .1 in
+    let block = clearing at-loop6 .before .before .step .given .1 in
     let q = end-is ends block in
-    let w = subst (Done (a .order) (now (a .pool)) (size at-loop5) (a .t1) (l .self) (take k (l .mix))) q (passing-end (begun ends) (left .loop5-test .left) (l .inv .0)) in
-    let v = subst (Counted (a .order) (size at-loop5) (a .t1) (l .places)) q (passing-end (begun ends) (left .loop5-test .left) (l .inv .1) .1) in
+    let w = subst (Done (a .order) (now (a .pool)) (size at-loop6) (a .t1) (l .self) (take k (l .mix))) q (passing-end (begun ends) (left .loop6-test .left) (l .inv .0)) in
+    let v = subst (Counted (a .order) (size at-loop6) (a .t1) (l .places)) q (passing-end (begun ends) (left .loop6-test .left) (l .inv .1) .1) in
     let p : take (k - 0) (l .mix) ≡ take k (l .mix) = rw sub-zero in (
       ap₂ renders (w .0) v ∙ sym (ap (λ (j : StepKind). renderedStep (a .order) (now (a .pool)) j (a .t1)) block),
       laid .overlay-channels .ensures ∙ ap (λ (run : List Float). overlay (length out / 64) (take 64 run) out) (p ∙ w .1)

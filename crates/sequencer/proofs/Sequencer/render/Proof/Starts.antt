@@ -1,4 +1,4 @@
--- The waiting events that start (loop): the outer loop keeps what the definition gives from here on; the inner one lets the heap's last sink.
+-- The waiting events that start (loop): the outer loop keeps what the definition gives from here on; the inner ones fill the place of the first (loop2), and let the last rise (loop3).
 use borrow.Author.Needs.{needs}
 use borrow.Author.Tests.{not-true, not-false}
 use native.Mathlib.Omega.{arith}
@@ -15,7 +15,7 @@ use Rattle.ready.specs.Steps.{child-left, child-first, child-second}
 use Rattle.sequencer.specs.declared.Sequencer.{Sequencer}
 use Rattle.sequencer.specs.Parts.{withReady, withPast, withEdits, withTimes, withLetGo}
 use Rattle.sequencer.specs.Moves.{poppedReady, readyToActive}
-use Rattle.sequencer.specs.Rounds.{lastPlace, lastOf, SinkingIn, sinking-in, sinking-in-on, sunk-in-end, sunk-in-stop}
+use Rattle.sequencer.specs.Rounds.{lastPlace, lastOf, sinking-in, sinking-in-on, rising-in, rising-in-on, popped-root, popped-stop}
 use Rattle.sequencer.specs.Turns.{Activating, activated-none, activated-beyond, activated-late, Taking, taking-none, taking-missing, taking-stored, taking-len, activating-room, activating-full}
 use Rattle.sequencer.proofs.Sequencer.render.Tie as tie
 use Rattle.sequencer.proofs.Sequencer.render.Proof.Invariants.{With}
@@ -71,15 +71,21 @@ below : (c : Found) → c .if4 .c < lastPlace (c .before .before .before .before
 below c =
     ⊎-elim (λ w. omega (arith, w .5, w .0 .taken)) (⊎-elim (λ w. omega (arith, w .5, c .before .loop2-test .taken)) (λ w. omega (arith, w .1, c .before .loop2-test .taken))) (c .if4 .came)
 
--- ---- the heap once the last has sunk
+-- ---- the heap once the first has left
 
-popped : (c : With tie.Left-loop2)
-    → (let l = c .before .loop2 in let t = c .before .before .before .if3 .self in withReady (l .self) (set (l .self .ready) (l .i) (lastOf t)) (lastPlace t) ≡ poppedReady t)
+-- from where the last has risen: where its edit had been taken
+abbrev had : With tie.Left-loop3 → Taken
+had c = c .before .before .before .before .before
+
+popped : (c : With tie.Left-loop3)
+    → (let l = c .before .loop3 in let t = had c .if3 .self in withReady (l .self) (set (l .self .ready) (l .i) (lastOf t)) (lastPlace t) ≡ poppedReady t)
 popped c =
-    let k = sized (c .before .before .before) in
-    ⊎-elim (λ w. sunk-in-end (k .0) (k .1) (w .left) (c .before .loop2 .inv .1))
-    (λ w. sunk-in-stop (k .0) (k .1) (at-child (record { before = record { before = c .before; loop2-test = w .0 }; if4 = w .1 })) refl
-    (sym (w .4 .ensures) ∙ not-true _ (w .5 .taken)) (c .before .loop2 .inv .1)) (c .loop2-test .came)
+    let k = sized (had c) in
+    let a = c .before .before in
+    let v = a .before .loop2 .inv .1 in
+    let r = c .before .loop3 .inv .2 in
+    ⊎-elim (λ w. popped-root (k .0) (k .1) (a .loop2-test .left) v r (w .left))
+    (λ w. popped-stop (k .0) (k .1) (a .loop2-test .left) v r (sym (w .2 .ensures) ∙ not-true _ (w .3 .taken))) (c .loop3-test .came)
 
 pub sub-m : With tie.Need-sub-m
 sub-m c = let h = sized c in search needs
@@ -100,37 +106,46 @@ pub element-copy-out-child : With tie.Need-element-copy-out-child
 element-copy-out-child c = let h = below (c .before) in search needs
 
 pub loop2-less : With tie.Need-loop2-less
-loop2-less c = let h = below (c .before .before .before .before) in let k = above (c .before .before .before .before) in omega arith
+loop2-less c = let h = below (c .before .before) in let k = above (c .before .before) in omega arith
 
 pub loop2-again : With tie.Need-loop2-again
 loop2-again c =
-    let d = c .before .before .before .before in
+    let d = c .before .before in
     let l = d .before .before .loop2 in
     let h = below d in
-    (l .inv .0, sinking-in-on (d .before .loop2-test .taken) (at-child d) (omega arith) refl (sym (c .before .precedes2 .ensures) ∙ not-false _ (c .if6 .left)) (l .inv .1))
+    (l .inv .0, sinking-in-on (d .before .loop2-test .taken) (at-child d) (omega arith) refl (l .inv .1))
+
+pub loop3-holds : With tie.Need-loop3-holds
+loop3-holds c = let v = c .before .loop2 .inv in (v .0, v .1 .inside, rising-in)
+
+pub loop3-again : With tie.Need-loop3-again
+loop3-again c =
+    let d = c .before .before in
+    let l = d .before .before .before .loop3 in
+    (l .inv .0, l .inv .1, rising-in-on (d .before .before .loop3-test .taken) (sym (d .precedes2 .ensures) ∙ not-false _ (c .before .if6 .left)) (l .inv .2))
 
 pub loop-less : With tie.Need-loop-less
 loop-less c =
-    let d = c .before .before .before .before in
+    let d = had (c .before) in
     let e = taking-len (taking d) in
     omega (arith, d .before .before .before .before .before .before .loop-test .taken)
 
 pub loop-again : With tie.Need-loop-again
 loop-again c =
-    let d = c .before .before .before .before in
+    let d = had (c .before) in
     let b = d .before .before in
     activating-room _ _ (b .before .before .before .before .loop-test .taken) (b .before .before .before .if1 .left) (not-false _ (b .if2 .left)) (taking d) (popped (c .before))
     (b .before .before .before .before .before .loop .inv) refl (c .if7 .taken)
 
 pub loop-less-2 : With tie.Need-loop-less-2
 loop-less-2 c =
-    let d = c .before .before .before .before in
+    let d = had (c .before) in
     let e = taking-len (taking d) in
     omega (arith, d .before .before .before .before .before .before .loop-test .taken)
 
 pub loop-again-2 : With tie.Need-loop-again-2
 loop-again-2 c =
-    let d = c .before .before .before .before in
+    let d = had (c .before) in
     let b = d .before .before in
     activating-full _ _ (b .before .before .before .before .loop-test .taken) (b .before .before .before .if1 .left) (not-false _ (b .if2 .left)) (taking d) (popped (c .before))
     (b .before .before .before .before .before .loop .inv) (c .if7 .left)
