@@ -2,6 +2,7 @@ pub mod Search
 pub mod Index
 pub mod Edits
 pub mod Rounds
+pub mod Past
 pub mod Holds
 pub mod Numbered
 pub mod Sounding

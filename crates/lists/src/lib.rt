@@ -4,8 +4,10 @@
 ghost use mathlib.Core.Path.{_≡_};
 ghost use Rattle.lists.specs.Index.{foundId};
 ghost use Rattle.lists.specs.Edits.{emptied, placed, foundEdit, stored, removed};
+ghost use Rattle.lists.specs.Past.{goneBy, keptBy};
 use event::Edit;
 use event::EventId;
+use event::ReplayMode;
 use event::StoredEdit;
 
 // A place in a list.
@@ -148,5 +150,26 @@ impl EditMap {
             }
             Found::Nothing => self,
         }
+    }
+}
+
+// ---- the finished, at the beginning of a tick or block
+
+// In mode None they are let go: how many were, and how many are left.
+pub fn gone(mode: ReplayMode, let_go: u64, past_len: usize) -> u64
+    ensures { λ r. ⌜ r ≡ goneBy mode «let_go» «past_len» ⌝ }
+{
+    match mode {
+        ReplayMode::All => let_go,
+        ReplayMode::None => std::num::wrapping_add_u64(let_go, past_len as u64),
+    }
+}
+
+pub fn kept(mode: ReplayMode, past_len: usize) -> usize
+    ensures { λ r. ⌜ r ≡ keptBy mode «past_len» ⌝ }
+{
+    match mode {
+        ReplayMode::All => past_len,
+        ReplayMode::None => 0,
     }
 }

@@ -1,7 +1,7 @@
 -- The arms of the record loop: what each leaves in the engine's fields is what its plan means. Assumes nothing.
 use mathlib.Core.Bool.{Bool, true, false, _&&_, cond, true≢false, false≢true}
 use mathlib.Core.List.{List}
-use mathlib.Core.Path.{_≡_, refl, sym, ap, _∙_, subst}
+use mathlib.Core.Path.{_≡_, refl, sym, ap, ap₂, _∙_, subst}
 use Prim.Native.Nat.{ℕ, zero, suc, _+_, _-_, _*_, _%_, _^_, _≤_, _<_, min}
 use native.Mathlib.Omega.{arith}
 use native.Mathlib.Decide.{decLt}
@@ -25,6 +25,7 @@ use Rattle.ledger.specs.BlockSamples.{afterBlock}
 use Rattle.lists.specs.declared.EditMap.{EditMap}
 use Rattle.lists.specs.declared.Found.{Found}
 use Rattle.lists.specs.declared.Found.the-variants.{At, Nothing}
+use Rattle.lists.specs.Past.{goneBy, keptBy}
 use Rattle.lists.specs.Search.{shift}
 use Rattle.lists.specs.Index.{foundId, isId, noId}
 use Rattle.lists.specs.Rounds.{Seeking, seeking-start}
@@ -36,7 +37,7 @@ use Rattle.sequencer.specs.Parts.{withReady, withActive, withPast, withEdits, w
 use Rattle.sequencer.specs.Moves.{pushedReady, poppedReady, pushedActive, readyToActive, activeToPast, allToReady}
 use Rattle.sequencer.specs.Edits.{indexOf, changedBy, changed}
 use Rattle.sequencer.specs.Resets.{rewinds, emptiedLists, resetBy, resets}
-use Rattle.sequencer.specs.Turns.{Activating, activated-none, activated-beyond, activated-late, Taking, taking-missing, taking-stored, Finishing, finishing-on, finishing-room, finishing-full, filledByLast, finished-end, finished-beyond}
+use Rattle.sequencer.specs.Turns.{Activating, activated-none, activated-beyond, activated-late, Taking, taking-missing, taking-stored, Finishing, finishing-on, finishing-room, finishing-full, filledByLast, finished-end, finished-beyond, released}
 use Rattle.mixing.specs.Placed.{source-moves}
 use Rattle.sequencer.specs.Passing.{withValue, withPlace, sourceStoredAt, Passing, passing-stored}
 use Rattle.plans.specs.declared.Step.{Step}
@@ -288,8 +289,10 @@ pub passing-moved : (b : Step) {T : Type 0} {plus : T → Event → T} {z : T} {
 passing-moved b = passing-stored (sounded-unit b) refl
 
 -- before the events start: n were let go, and k finished ones are left
-pub begun : (b : Step) (s : Sequencer) {n k : ℕ} → n ≡ begunIn b s .«let_go» → k ≡ begunIn b s .«past_len» → withTimes (withPast (withLetGo s n) (s .past) k) (s .time) (b .threshold) ≡ begunIn b s
-begun b s p q = λ i. withTimes (withPast (withLetGo s (p i)) (s .past) (q i)) (s .time) (b .threshold)
+pub begun : (b : Step) (s : Sequencer) {n k : ℕ} → n ≡ goneBy (s .mode) (s .«let_go») (s .«past_len») → k ≡ keptBy (s .mode) (s .«past_len»)
+    → withTimes (withPast (withLetGo s n) (s .past) k) (s .time) (b .threshold) ≡ begunIn b s
+begun b s p q =
+    ap (λ (x : Sequencer). withTimes x (x .time) (b .threshold)) (ap₂ (λ (i j : ℕ). withPast (withLetGo s i) (s .past) j) p q ∙ released s (s .mode))
 
 pub advanced-by : (b : Step) (s x t u : Sequencer) → x ≡ begunIn b s → t ≡ readyToActive x → u ≡ activeToPast t (b .limit) → withTimes u (b .end) (u .«active_threshold») ≡ advancedIn b s
 advanced-by b s x t u p q r =

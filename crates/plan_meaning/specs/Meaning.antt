@@ -18,7 +18,7 @@ use Rattle.event.specs.declared.EventId.{EventId}
 use Rattle.event.specs.declared.ReplayMode.{ReplayMode}
 use Rattle.event.specs.declared.ReplayMode.the-variants.{All, None}
 use Rattle.event.specs.Events.{blank, newEvent}
-use Rattle.floats.specs.Arithmetic.{_+ᵈ_, _-ᵈ_, _×ᵈ_, _<ᶠ_, _≤ᶠ_, _÷ᵈ_, _+ˢ_, zeroᶠ, oneᶠ, halfᶠ, -∞, whole}
+use Rattle.floats.specs.Arithmetic.{_+ᵈ_, _×ᵈ_, _<ᶠ_, _≤ᶠ_, _÷ᵈ_, _+ˢ_, zeroᶠ, oneᶠ, -∞, whole}
 use Rattle.ledger.specs.Calls.{absolute, relative, byDuration}
 use Rattle.ledger.specs.Refusals.{within, withinEnd, finiteSource, statedEnd, editEnd}
 use Rattle.ledger.specs.Steps.{pushedTime}
@@ -33,7 +33,7 @@ use Rattle.lists.specs.Edits.{placed, foundAt, foundEdit, storedAt, stored}
 use Rattle.refusals.specs.Refusals.{pushRefusal, roomless, noRoom, editLimits, editRefusal, tickRefusal, processRefusal, rateRefusal}
 use Rattle.sequencer.specs.declared.Sequencer.{Sequencer}
 use Rattle.sequencer.specs.declared.Outcome.{Outcome}
-use Rattle.sequencer.specs.Parts.{withReady, withActive, withPast, withEdits, withTimes, withRate, withNext, withLetGo, withSounding}
+use Rattle.sequencer.specs.Parts.{withReady, withActive, withPast, withEdits, withTimes, withRate, withNext, withSounding}
 use Rattle.sequencer.specs.Moves.{pushedReady, pushedActive, pushedEvent, readyToActive, activeToPast, releasedPast, advanced, heldAt, toReady, allToReady}
 use Rattle.sequencer.specs.Edits.{indexOf, changedBy, changed, amended, edits}
 use Rattle.sequencer.specs.Resets.{rewinds, rewoundReady, resetBy, resets, reRated, rates}
@@ -52,7 +52,7 @@ use Rattle.plans.specs.declared.Plan.{Plan}
 use Rattle.plans.specs.declared.Plan.the-variants.{Answer, Sound, Wait, Render, Full, Amend, Clear, Create}
 use Rattle.plans.specs.declared.Requeue.{Requeue}
 use Rattle.plans.specs.declared.Plan.the-variants as Plan
-use Rattle.plans.specs.Plans.{entersBy, pushPlan, releasesIn, stepOf, stepPlan, tickPlan, blockPlan, editPlan, resetPlan, ratePlan, planOf, letGoAfter, pastAfter, rewoundPlaces}
+use Rattle.plans.specs.Plans.{entersBy, pushPlan, stepOf, stepPlan, tickPlan, blockPlan, editPlan, resetPlan, ratePlan, planOf, rewoundPlaces}
 use Rattle.plans.specs.Sounding.{soundedEvent, soundedRow}
 use Rattle.record_output.specs.Bytes.{bytesOf, channelsOf, length-sound}
 use Rattle.record_output.specs.Rows.{Rows, tick-rows, length-overlay, block-rows}
@@ -76,12 +76,11 @@ clockOf s = record {
 
 -- ---- the engine after a tick or block, by the plan's numbers
 
-abbrev pub releasedIn : Step → Sequencer → Sequencer
-releasedIn b s = withPast (withLetGo s (letGoAfter (b .releases) (s .«let_go») (s .«past_len»))) (s .past) (pastAfter (b .releases) (s .«past_len»))
-
 -- before the events start
 abbrev pub begunIn : Step → Sequencer → Sequencer
-begunIn b s = withTimes (releasedIn b s) (s .time) (b .threshold)
+begunIn b s =
+    let a = releasedPast s (s .mode) in
+    withTimes a (a .time) (b .threshold)
 
 abbrev pub advancedIn : Step → Sequencer → Sequencer
 advancedIn b s =
@@ -326,21 +325,9 @@ reset-means pool s x room None h = (refl, refl, h)
 
 -- ---- a tick or block
 
--- the beginning
-begun-is : (s : Sequencer) (m : ReplayMode) → releasedPast s m ≡ withPast (withLetGo s (letGoAfter (releasesIn m) (s .«let_go») (s .«past_len»))) (s .past) (pastAfter (releasesIn m) (s .«past_len»))
-unfolding releasedPast
-begun-is s All = refl
-begun-is s None = refl
-
 advanced-is : (s : Sequencer) (tick : Bool) (n k : ℕ) (e : Float) → advanced s e ≡ advancedIn (stepOf tick n k e (clockOf s)) s
 unfolding advanced
-advanced-is s tick n k e = ap finish (begun-is s (s .mode))
-  where
-    finish : Sequencer → Sequencer
-    finish a =
-        let b = readyToActive (withTimes a (a .time) (e -ᵈ s .«sample_duration» ×ᵈ halfᶠ)) in
-        let c = activeToPast b (s .time +ᵈ halfᶠ ×ᵈ s .«sample_duration») in
-        withTimes c e (c .«active_threshold»)
+advanced-is s tick n k e = refl
 
 -- a tick's row: its first place has the sum
 tick-row : (pool : List Float) (t : Float) (f : ℕ) (xs : List Event) (i : ℕ) (y : Float) (ys : List Float)

@@ -31,15 +31,9 @@ pushPlan p lasts from until c =
 
 -- ---- a tick or block
 
--- in mode None the finished are let go
-abbrev pub releasesIn : ReplayMode → Bool
-releasesIn All = false
-releasesIn None = true
-
 abbrev pub stepOf : (tick : Bool) → (size channels : ℕ) → (end : Float) → Clock → Step
 stepOf tick n k end c = record {
   tick = tick;
-  releases = releasesIn (c .mode);
   size = n;
   channels = k;
   time = c .time;
@@ -101,13 +95,7 @@ planOf (Call.EditRelative p) c room = editPlan p (c .time +ᵈ p .«end_time»)
 planOf Call.Reset c room = resetPlan (c .mode) c
 planOf (Call.SetSampleRate r) c room = ratePlan r c
 
--- ---- the beginning of a tick or block
-
-abbrev pub letGoAfter : (releases : Bool) → (let-go past : ℕ) → ℕ
-letGoAfter b n past = cond b ((n + past) % 2 ^ 64) n
-
-abbrev pub pastAfter : (releases : Bool) → (past : ℕ) → ℕ
-pastAfter b past = cond b 0 past
+-- ---- a tick or block goes on
 
 -- a corrupt count starts nothing
 abbrev pub startsBefore : (waiting : ℕ) → (start threshold : Float) → Bool

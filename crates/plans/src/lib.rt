@@ -3,7 +3,7 @@ ghost use mathlib.Core.Path.{_≡_};
 ghost use Prim.Native.Nat.{_≤_};
 ghost use lib.ListN.{getD, set};
 ghost use Rattle.floats.specs.Arithmetic.{_+ˢ_, zeroᶠ, -∞};
-ghost use Rattle.plans.specs.Plans.{pushPlan, releasesIn, stepOf, stepPlan, tickPlan, blockPlan, editPlan, resetPlan, ratePlan, planOf, letGoAfter, pastAfter, startsBefore, countedPlaces, lesserChild, isWithin, afterPlace, rewoundPlaces, allGone};
+ghost use Rattle.plans.specs.Plans.{pushPlan, stepOf, stepPlan, tickPlan, blockPlan, editPlan, resetPlan, ratePlan, planOf, startsBefore, countedPlaces, lesserChild, isWithin, afterPlace, rewoundPlaces, allGone};
 ghost use Rattle.plans.specs.Sounding.{soundedEvent, soundedRow};
 use event::Edit;
 use event::Event;
@@ -36,7 +36,6 @@ pub struct Clock {
 // A tick or block that is not refused: its size and channels, the clock at its beginning and end, the limit by which an event has ended and the threshold before which one starts.
 pub struct Step {
     pub tick: bool,
-    pub releases: bool,
     pub size: usize,
     pub channels: usize,
     pub time: f64,
@@ -97,15 +96,6 @@ fn push_plan(p: PushRecord, lasts: f64, from: f64, until: f64, clock: Clock) -> 
     Plan::Wait(event)
 }
 
-fn releases(mode: ReplayMode) -> bool
-    ensures { λ r. ⌜ r ≡ releasesIn mode ⌝ }
-{
-    match mode {
-        ReplayMode::All => false,
-        ReplayMode::None => true,
-    }
-}
-
 fn step_plan(tick: bool, size: usize, channels: usize, end: f64, clock: Clock, room: usize) -> Plan
     requires { ⌜ (channels ≤ 8) × (size ≤ 255) ⌝ }
     ensures { λ r. ⌜ r ≡ stepPlan room (stepOf tick size channels end clock) ⌝ }
@@ -113,10 +103,8 @@ fn step_plan(tick: bool, size: usize, channels: usize, end: f64, clock: Clock, r
     if room < 4 * (channels * size) {
         return Plan::Full;
     }
-    let mode = clock.mode;
     Plan::Render(Step {
         tick,
-        releases: releases(mode),
         size,
         channels,
         time: clock.time,
@@ -249,23 +237,7 @@ pub fn plan_of(call: Call, clock: Clock, room: usize) -> Plan
     }
 }
 
-// ---- the beginning of a tick or block
-
-pub fn gone(releases: bool, let_go: u64, past: usize) -> u64
-    ensures { λ r. ⌜ r ≡ letGoAfter releases «let_go» past ⌝ }
-{
-    if releases {
-        std::num::wrapping_add_u64(let_go, past as u64)
-    } else {
-        let_go
-    }
-}
-
-pub fn kept(releases: bool, past: usize) -> usize
-    ensures { λ r. ⌜ r ≡ pastAfter releases past ⌝ }
-{
-    if releases { 0 } else { past }
-}
+// ---- a tick or block
 
 // Whether the heap's first starts before the threshold; a corrupt count starts nothing.
 pub fn starts(waiting: usize, start: f64, threshold: f64) -> bool

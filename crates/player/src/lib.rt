@@ -152,8 +152,8 @@ pub fn run(
             }
             // Tick, or block: "in mode None F's numbers are appended to G and F empties".
             Plan::Render(step) => {
-                s.let_go = plans::gone(step.releases, s.let_go, s.past_len);
-                s.past_len = plans::kept(step.releases, s.past_len);
+                s.let_go = lists::gone(mode, s.let_go, s.past_len);
+                s.past_len = lists::kept(mode, s.past_len);
                 s.active_threshold = step.threshold;
                 // "While W's first start < θ it moves to S's end, taking and removing its edit." The first place is filled from below, and from where that ends the heap's last goes up, past every one that it precedes.
                 loop {

@@ -115,15 +115,7 @@ activeToPast s limit = finishes (s .«active_len») limit s 0
 
 -- ---- a tick or a block that ends at e
 
--- in mode None the finished are let go: how many were, and how many are left
-unfoldable pub goneBy : ReplayMode → (gone past : ℕ) → ℕ
-goneBy All gone past = gone
-goneBy None gone past = (gone + past) % 2 ^ 64
-
-unfoldable pub keptBy : ReplayMode → (past : ℕ) → ℕ
-keptBy All past = past
-keptBy None past = 0
-
+-- in mode None the finished are let go
 unfoldable pub releasedPast : Sequencer → ReplayMode → Sequencer
 releasedPast s All = s
 releasedPast s None = withPast (withLetGo s ((s .«let_go» + s .«past_len») % 2 ^ 64)) (s .past) 0

@@ -26,7 +26,8 @@ use Rattle.lists.specs.declared.FoundEdit.the-variants.{Stored, Missing}
 use Rattle.lists.specs.Edits.{noEdit, isEdit, placed, foundAt, foundEdit, removed}
 use Rattle.sequencer.specs.declared.Sequencer.{Sequencer}
 use Rattle.sequencer.specs.Parts.{withReady, withActive, withPast, withEdits, withTimes, withLetGo}
-use Rattle.sequencer.specs.Moves.{pushedReady, poppedReady, pushedActive, swapRemoved, pushedPast, activated, activatedBy, activates, readyToActive, finishes, activeToPast, goneBy, keptBy, releasedPast, advanced, heldAt, toReady, allToReady}
+use Rattle.lists.specs.Past.{goneBy, keptBy}
+use Rattle.sequencer.specs.Moves.{pushedReady, poppedReady, pushedActive, swapRemoved, pushedPast, activated, activatedBy, activates, readyToActive, finishes, activeToPast, releasedPast, advanced, heldAt, toReady, allToReady}
 use Rattle.sequencer.specs.Resets.{rewinds}
 
 cond-same : {A B : Type 0} (f : A → B) (b : Bool) (x y : A) → f x ≡ f y → f (cond b x y) ≡ f y
@@ -228,7 +229,7 @@ module _ (limit : Float) (s : Sequencer) (i : ℕ) (r : Sequencer) where
 
 -- ---- the beginning of a tick or a block
 
-released : (s : Sequencer) (m : ReplayMode) → withPast (withLetGo s (goneBy m (s .«let_go») (s .«past_len»))) (s .past) (keptBy m (s .«past_len»)) ≡ releasedPast s m
+pub released : (s : Sequencer) (m : ReplayMode) → withPast (withLetGo s (goneBy m (s .«let_go») (s .«past_len»))) (s .past) (keptBy m (s .«past_len»)) ≡ releasedPast s m
 unfolding goneBy keptBy releasedPast
 released s All = refl
 released s None = refl

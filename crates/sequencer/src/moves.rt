@@ -7,7 +7,6 @@ use crate::Answer;
 use crate::Pushed;
 use crate::Sequencer;
 use event::Event;
-use event::ReplayMode;
 use runs::least;
 
 impl Sequencer {
@@ -87,14 +86,9 @@ impl Sequencer {
         ensures { λ r. ⌜ r ≡ releasedPast self (self .mode) ⌝ }
     {
         let mode = self.mode;
-        match mode {
-            ReplayMode::All => self,
-            ReplayMode::None => {
-                self.let_go = std::num::wrapping_add_u64(self.let_go, self.past_len as u64);
-                self.past_len = 0;
-                self
-            }
-        }
+        self.let_go = lists::gone(mode, self.let_go, self.past_len);
+        self.past_len = lists::kept(mode, self.past_len);
+        self
     }
 
     // ---- everything waits again

@@ -1,12 +1,9 @@
 -- `plans::step_plan` meets its contract. Assumes nothing.
-use mathlib.Core.Path.{_≡_, ap}
-use mathlib.Core.Bool.{Bool}
 use native.Mathlib.Omega.{arith}
 use native.Mathlib.Nat.{mul-le-mul}
 use borrow.Author.Tests.{lt-ltb, le-ltb}
 use lib.Ieee.{ofBits}
 use Rattle.plans.specs.Plans.{stepPlan}
-use borrow.Author.Needs.{needs}
 use Rattle.plans.proofs.step_plan.Statement.{statement}
 use Rattle.plans.proofs.step_plan.Tie as tie
 
@@ -22,8 +19,8 @@ returns c = rw (lt-ltb _ _ (c .if1 .taken))
 
 returns-2 : tie.Need-returns-2
 unfolding stepPlan ofBits
-returns-2 c = rw (le-ltb _ _ (c .before .before .before .before .if1 .left), c .before .before .before .releases .ensures)
+returns-2 c = rw (le-ltb _ _ (c .before .before .before .if1 .left))
 
 pub step-plan-spec : {M : Type 1} → statement M
 step-plan-spec = tie.close
-    (tie.spec mul-if1 mul-if1-2 returns (λ c κs. search needs) returns-2)
+    (tie.spec mul-if1 mul-if1-2 returns returns-2)

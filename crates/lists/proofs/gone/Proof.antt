@@ -1,10 +1,10 @@
--- `sequencer::rendering::gone` meets its contract. Assumes nothing.
+-- `lists::gone` meets its contract. Assumes nothing.
 use borrow.Author.Needs.{needs}
 use mathlib.Core.Path.{sym, ap, _∙_}
 use Rattle.event.specs.declared.ReplayMode.{ReplayMode}
-use Rattle.sequencer.specs.Moves.{goneBy}
-use Rattle.sequencer.proofs.rendering.gone.Statement.{statement}
-use Rattle.sequencer.proofs.rendering.gone.Tie as tie
+use Rattle.lists.specs.Past.{goneBy}
+use Rattle.lists.proofs.gone.Statement.{statement}
+use Rattle.lists.proofs.gone.Tie as tie
 
 returns : tie.Need-returns
 unfolding goneBy

@@ -1,8 +1,8 @@
--- `sequencer::rendering::kept` meets its contract. Assumes nothing.
+-- `lists::kept` meets its contract. Assumes nothing.
 use borrow.Author.Needs.{needs}
-use Rattle.sequencer.specs.Moves.{keptBy}
-use Rattle.sequencer.proofs.rendering.kept.Statement.{statement}
-use Rattle.sequencer.proofs.rendering.kept.Tie as tie
+use Rattle.lists.specs.Past.{keptBy}
+use Rattle.lists.proofs.kept.Statement.{statement}
+use Rattle.lists.proofs.kept.Tie as tie
 
 returns : tie.Need-returns
 unfolding keptBy
