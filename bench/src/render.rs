@@ -100,14 +100,15 @@ pub fn render(tape: &[u8], out: &mut [u8]) -> usize {
     run::<false>(tape, out).0
 }
 
-/// The same tape: the nanoseconds that the original's `process` takes, without the loop around it.
+/// The same tape: the nanoseconds that the original's `process` takes, without the loop around it and without the clock's own time.
 pub fn process_time(tape: &[u8], out: &mut [u8]) -> u64 {
     run::<true>(tape, out).1
 }
 
-/// The count of bytes written and, where `process` is timed, its nanoseconds.
+/// The count of bytes written and, where `process` is timed, its nanoseconds. Two readings of the clock right before each call tell what one takes.
 fn run<const TIMED: bool>(tape: &[u8], out: &mut [u8]) -> (usize, u64) {
-    let mut spent = 0;
+    let now = || if TIMED { crate::bench_now() } else { 0 };
+    let (mut spent, mut clock) = (0, 0);
     let Some((
         Call::Create {
             channels: c,
@@ -139,7 +140,7 @@ fn run<const TIMED: bool>(tape: &[u8], out: &mut [u8]) -> (usize, u64) {
                 }
                 engine.sequencer.tick(&[], &mut line[..channels]);
                 let Some(room) = out.get_mut(at..at + 4 * channels) else {
-                    return (at, spent);
+                    return (at, spent - clock);
                 };
                 put(&line[..channels], room);
                 at += 4 * channels;
@@ -151,13 +152,13 @@ fn run<const TIMED: bool>(tape: &[u8], out: &mut [u8]) -> (usize, u64) {
                 }
                 let mut buffer = buffers.buffer_mut();
                 let s = &mut engine.sequencer;
-                let start = if TIMED { crate::bench_now() } else { 0 };
+                let before = now();
+                let start = now();
                 s.process(size, &BufferRef::empty(), &mut buffer);
-                if TIMED {
-                    spent += crate::bench_now() - start;
-                }
+                spent += now() - start;
+                clock += start - before;
                 let Some(room) = out.get_mut(at..at + 4 * size * channels) else {
-                    return (at, spent);
+                    return (at, spent - clock);
                 };
                 for channel in 0..channels {
                     let samples = &buffer.channel_f32(channel)[..size];
@@ -174,7 +175,7 @@ fn run<const TIMED: bool>(tape: &[u8], out: &mut [u8]) -> (usize, u64) {
             _ => unreachable!("a script's call on a tape"),
         }
     }
-    (at, spent)
+    (at, spent - clock)
 }
 
 /// The record at the tape's beginning and its length; none at the end and where it cannot be taken apart.
