@@ -101,8 +101,11 @@ impl Compared {
     }
 }
 
-/// Compare on every tape. `differs` says in what a tape shows a difference.
-pub fn compare(options: &Options, mut differs: impl FnMut(&[u8]) -> Option<String>) -> Compared {
+/// Compare on every tape. `differs` says in what a tape shows a difference; the seed is that of the tape which was generated.
+pub fn compare(
+    options: &Options,
+    mut differs: impl FnMut(&[u8], u64) -> Option<String>,
+) -> Compared {
     let mut compared = Compared::default();
     for profile in &options.profiles {
         for seed in options.seed..options.seed + options.tapes {
@@ -113,6 +116,7 @@ pub fn compare(options: &Options, mut differs: impl FnMut(&[u8]) -> Option<Strin
             };
             count.tapes += 1;
             count.records += records(profile, &tape);
+            let mut differs = |tape: &[u8]| differs(tape, seed);
             if let Some(what) = differs(&tape) {
                 count.differences += 1;
                 if compared.report.is_none() {

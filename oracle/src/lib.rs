@@ -20,6 +20,7 @@ pub mod peak;
 pub mod player;
 mod refusal;
 pub mod render;
+pub mod rises;
 pub mod session;
 pub mod sheet;
 pub mod shrink;

@@ -13,9 +13,13 @@ fn start(event: &EventState) -> f64 {
     f64::from_bits(event.start)
 }
 
-/// All held events with start < the stretch's end and end > its beginning, by start then number; or the refusal.
-pub fn clips(state: &State, from: f64, to: f64) -> Result<Vec<u64>, u8> {
-    if from.is_nan() || to.is_nan() || to <= from {
+/// How many numbers the lent slice must have.
+pub const SLICE: usize = 256;
+
+/// All held events with start < the stretch's end and end > its beginning, by start then number; or the refusal. The slice has
+/// `length` numbers.
+pub fn clips(state: &State, from: f64, to: f64, length: usize) -> Result<Vec<u64>, u8> {
+    if from.is_nan() || to.is_nan() || to <= from || length != SLICE {
         return Err(17);
     }
     let lists = [&state.waiting, &state.sounding, &state.finished];
@@ -59,12 +63,16 @@ pub fn seconds(argument: &str) -> f64 {
     sign * (rest.parse::<u64>().expect("it has up to 15 digits") as f64 / 1000.0)
 }
 
-/// What `trail_clips` prints for the events of a state.
-pub fn text(state: &State, from: &str, to: &str) -> String {
+/// What `trail_clips` prints for the events of a state, lent a slice of the given length, or of 256.
+pub fn text(state: &State, from: &str, to: &str, length: Option<usize>) -> String {
     let (from, to) = (seconds(from), seconds(to));
+    let lent = length.unwrap_or(SLICE);
     let mut text = String::new();
-    match clips(state, from, to) {
+    // "the rest of the slice left"; a refused call writes nothing
+    let mut left = lent;
+    match clips(state, from, to, lent) {
         Ok(numbers) => {
+            left -= numbers.len();
             writeln!(text, "clips {}", numbers.len()).unwrap();
             for number in numbers {
                 writeln!(text, "{number}").unwrap();
@@ -76,6 +84,9 @@ pub fn text(state: &State, from: &str, to: &str) -> String {
         Ok(Some(number)) => writeln!(text, "first {number}").unwrap(),
         Ok(None) => writeln!(text, "first none").unwrap(),
         Err(refusal) => writeln!(text, "first refused {refusal}").unwrap(),
+    }
+    if length.is_some() {
+        writeln!(text, "left {left}").unwrap();
     }
     text
 }
@@ -177,5 +188,14 @@ pub fn argument(random: &mut Random) -> String {
             .into(),
         4..7 => random.between(-1000, 5000).to_string(),
         _ => (random.between(-8, 40) * 125).to_string(),
+    }
+}
+
+/// The slice's length, where it is given; most often the right one.
+pub fn length(random: &mut Random) -> Option<usize> {
+    match random.below(8) {
+        0..3 => None,
+        3..6 => Some(SLICE),
+        _ => Some(random.pick(&[0, 1, 64, 255, 257, 300, 512])),
     }
 }

@@ -5,7 +5,7 @@ use mathlib.Core.List.{List, [], _∷_, _++_, append-assoc, append-nil}
 use mathlib.Core.Path.{_≡_, refl, sym, ap, ap₂, _∙_, subst}
 use native.Mathlib.Numerals.{add-one}
 use native.Mathlib.Omega.{arith}
-use borrow.Author.Tests.{eq-eqb, ne-eqb, eqb-true, ltb-false, leb-false, lt-ltb}
+use borrow.Author.Tests.{eqb-true, ltb-false, leb-false, lt-ltb}
 use lib.Dec.{ltb, leb, eqb}
 use lib.Ieee.{Float, lt}
 use lib.Ieee.Scale.{finite}
@@ -15,7 +15,7 @@ use lib.Seq.{take-all, drop-drop, drop-cons, append-snoc, set-at}
 use Rattle.event.specs.declared.Event.{Event}
 use Rattle.ledger.specs.Calls.{Call, Reply, number, refused}
 use Rattle.ledger.specs.Steps.{answers}
-use Rattle.ledger.specs.Numbers.{acceptedOf}
+use Rattle.ledger.specs.Claim.{acceptedOf}
 use Rattle.event.specs.declared.Source.{Source}
 use Rattle.floats.specs.Arithmetic.{_<ᶠ_}
 use Rattle.ledger.specs.Refusals.{within, withinEnd, finiteSource}
@@ -28,6 +28,7 @@ use Rattle.sequencer.specs.Pushes.{enters, admitted, pushesTo, pushes}
 use Rattle.claim.specs.EngineCalls.{engineCall}
 use Rattle.batch.specs.declared.Batch.{Batch}
 use Rattle.batch.specs.declared.Step.{Step}
+use Rattle.batch.specs.declared.Step.the-variants.{Stop, Push}
 use Rattle.batch.specs.Records.{beyond, stopOf, kindAt, callOf}
 use Rattle.apply.specs.RecordCalls.{refusalOf}
 use Rattle.batch.specs.Run.{Pushed, ends, behind, pushRun, pushAll, written}
@@ -41,7 +42,8 @@ module _ {S : Type 0} (call : S → Call → S × Reply) (n : ℕ) (bs : List �
   unfolding pushRun
   run-stops h = rw h
 
-  run-refused : eqb (stopOf bs) 0 ≡ true → (t : S) (r : Reply) → call s (callOf bs) ≡ (t, r) → eqb (refusalOf (r .answer)) 0 ≡ false → pushRun call (suc n) bs s ≡ ends t (refusalOf (r .answer))
+  run-refused : eqb (stopOf bs) 0 ≡ true → (t : S) (r : Reply) → call s (callOf bs) ≡ (t, r) → eqb (refusalOf (r .answer)) 0 ≡ false
+      → pushRun call (suc n) bs s ≡ ends t (refusalOf (r .answer))
   unfolding pushRun
   run-refused h t r q k = rw (h, q, k)
 
@@ -63,18 +65,12 @@ module _ (s : Sequencer) (bs : List ℕ) where
   unfolding callOf pushes pushesTo
   engine-refuses h = rw h
 
-  engine-accepts : eqb refusalAt 0 ≡ true → engineCall s (callOf bs) ≡ (enters s (eventOf (kindAt bs) (pushOf bs) (s .time) (s .next)), answers (number (s .next)))
+  engine-accepts : eqb refusalAt 0 ≡ true
+      → engineCall s (callOf bs) ≡ (enters s (eventOf (kindAt bs) (pushOf bs) (s .time) (s .next)), answers (number (s .next)))
   unfolding callOf pushes pushesTo admitted
   engine-accepts h = rw h
 
--- ---- a record that nothing ends
-
-both-zero : (a b : ℕ) → cond (eqb a 0) b a ≡ 0 → (a ≡ 0) × (b ≡ 0)
-both-zero a b h = go (eqb a 0) refl h
-  where
-    go : (t : Bool) → eqb a 0 ≡ t → cond t b a ≡ 0 → (a ≡ 0) × (b ≡ 0)
-    go true e q = (eqb-true a 0 e, q)
-    go false e q = absurd (true≢false (sym (eq-eqb a 0 q) ∙ e))
+-- ---- what a step means for the run
 
 not-short : (a b c d : Bool) → _≡_ {A = ℕ} (cond a 15 (cond b 14 (cond c 14 (cond d 15 0)))) 0 → d ≡ false
 not-short true b c d h = absurd (omega arith)
@@ -83,20 +79,64 @@ not-short false false true d h = absurd (omega arith)
 not-short false false false true h = absurd (omega arith)
 not-short false false false false h = refl
 
--- it is there whole
+-- a record that does not stop the run is there whole
 whole-there : (bs : List ℕ) → stopOf bs ≡ 0 → sizeOf (kindOf bs) ≤ length bs
 unfolding stopOf
-whole-there bs h = ltb-false (length bs) (sizeOf (kindOf bs)) (not-short (eqb (length bs) 0) (not (pushKind (kindOf bs))) (unknownPush bs) (ltb (length bs) (sizeOf (kindOf bs))) h)
+whole-there bs h =
+    ltb-false (length bs) (sizeOf (kindOf bs))
+    (not-short (eqb (length bs) 0) (not (pushKind (kindOf bs))) (unknownPush bs) (ltb (length bs) (sizeOf (kindOf bs))) h)
+
+-- a push that nothing refuses finds fewer than 256 events
+not-full : (a b c d e f : Bool) → _≡_ {A = ℕ} (cond a 3 (cond b 4 (cond c 5 (cond d 18 (cond e 6 (cond f 7 0)))))) 0 → e ≡ false
+not-full true b c d e f h = absurd (omega arith)
+not-full false true c d e f h = absurd (omega arith)
+not-full false false true d e f h = absurd (omega arith)
+not-full false false false true e f h = absurd (omega arith)
+not-full false false false false true f h = absurd (omega arith)
+not-full false false false false false f h = refl
+
+-- of a push's arguments
+has-room : (start end lasts fade-in fade-out : Float) (source : Source) (gain : Float) (held next : ℕ)
+    → pushRefusal start end lasts fade-in fade-out source gain held next ≡ 0 → held < 256
+unfolding pushRefusal
+has-room start end lasts fade-in fade-out source gain held next h =
+    leb-false 256 held
+    (not-full (not (within start && withinEnd end && within fade-in && within fade-out)) (lasts <ᶠ fade-in || lasts <ᶠ fade-out) (not (finiteSource source))
+    (not (finite gain)) (leb 256 held) (eqb next 0) h)
+
+-- an event that is pushed: it has room, its record is there whole, and the run goes on after it
+pub record Pushes (bs : List ℕ) (s : Sequencer) (e : Event) (size : ℕ) : Type 0 where
+  pub room : s .«ready_len» + (s .«active_len» + s .«past_len») < 256
+  pub inside : size ≤ length bs
+  pub goes : (n : ℕ) → pushRun engineCall (suc n) bs s ≡ behind (s .next ∷ []) (pushRun engineCall n (drop size bs) (enters s e))
+
+abbrev pub Means : List ℕ → Sequencer → Step → Type 0
+Means bs s (Stop k) = (n : ℕ) → pushRun engineCall (suc n) bs s ≡ ends s k
+Means bs s (Push e size) = Pushes bs s e size
+
+means : (bs : List ℕ) (s : Sequencer) → Means bs s (stepOf bs (heldIn s) (s .time) (s .next))
+unfolding stepOf
+means bs s = go (eqb (stopOf bs) 0) refl (eqb (refusalAt s bs) 0) refl
+  where
+    event : Event
+    event = eventOf (kindAt bs) (pushOf bs) (s .time) (s .next)
+
+    go : (b : Bool) → eqb (stopOf bs) 0 ≡ b → (c : Bool) → eqb (refusalAt s bs) 0 ≡ c
+        → Means bs s (cond b (cond c (Push event (sizeOf (kindOf bs))) (Stop (refusalAt s bs))) (Stop (stopOf bs)))
+    go false h c k = λ n. run-stops engineCall n bs s h
+    go true h false k = λ n. run-refused engineCall n bs s h _ _ (engine-refuses s bs k) k
+    go true h true k = record {
+      room = (let l : heldIn s < 256 = has-room _ _ _ _ _ _ _ _ _ (eqb-true (refusalAt s bs) 0 k) in omega (arith, l));
+      inside = whole-there bs (eqb-true (stopOf bs) 0 h);
+      goes = λ n. run-on engineCall n bs s h _ _ (engine-accepts s bs k) refl;
+    }
 
 -- ---- the loop
 
--- the record at a place, on this engine
-abbrev pub stepAt : List ℕ → (at : ℕ) → Sequencer → Step
-stepAt bs at s = stepOf (drop at bs) (heldIn s) (s .time) (s .next)
-
 -- what the code gives back and leaves in the slice are the definition's
 abbrev pub Result : (count : ℕ) → (bs : List ℕ) → (s₀ : Sequencer) → (xs₀ : List ℕ) → (k : ℕ) → (s : Sequencer) → (xs : List ℕ) → (by : ℕ) → Type 0
-Result count bs s₀ xs₀ k s xs x = (_≡_ {A = Batch} (record { sequencer = s; pushed = k; ended = x }) (pushRecords s₀ bs count xs₀)) × (xs ≡ numbersAfter s₀ bs count xs₀)
+Result count bs s₀ xs₀ k s xs x =
+    (_≡_ {A = Batch} (record { sequencer = s; pushed = k; ended = x }) (pushRecords s₀ bs count xs₀)) × (xs ≡ numbersAfter s₀ bs count xs₀)
 
 -- After k pushes: the bytes from `at` on are not read yet, s is the engine and xs the lent slice.
 pub record Running (count : ℕ) (bs : List ℕ) (s₀ : Sequencer) (xs₀ : List ℕ) (k at : ℕ) (s : Sequencer) (xs : List ℕ) : Type 0 where
@@ -109,6 +149,10 @@ pub record Running (count : ℕ) (bs : List ℕ) (s₀ : Sequencer) (xs₀ : Lis
   pub inside : at ≤ length bs
   pub slice : xs ≡ issued ++ drop k xs₀
   pub gives : pushAll engineCall bs count xs₀ s₀ ≡ behind issued (pushRun engineCall left (drop at bs) s)
+
+-- the place after a record that is there whole is in the bytes
+pub place-inside : (bs : List ℕ) (at size : ℕ) → at ≤ length bs → size ≤ length (drop at bs) → at + size ≤ length bs
+place-inside bs at size h k = omega (arith, h, length-drop at bs, k)
 
 -- what the tests of 16 say
 within-limits : (count n : ℕ) → beyond count n ≡ false → (count ≤ 32) × (n ≡ 32)
@@ -145,26 +189,16 @@ module _ {count : ℕ} {bs : List ℕ} {s₀ : Sequencer} {xs₀ : List ℕ} whe
     pub slice-length : Running count bs s₀ xs₀ k at s xs → length xs ≡ length xs₀
     slice-length w = ap length (w .slice) ∙ omega (arith, length-append (w .issued) (drop k xs₀), length-drop k xs₀, w .many, w .total, w .few, w .long)
 
-    -- the place behind a whole record is in the bytes
-    pub place-inside : stepAt bs at s .ended ≡ 0 → Running count bs s₀ xs₀ k at s xs → at + stepAt bs at s .size ≤ length bs
-    unfolding stepOf
-    place-inside z w =
-        let whole = whole-there (drop at bs) (both-zero (stopOf (drop at bs)) (refusalAt s (drop at bs)) z .0) in
-        omega (arith, w .inside, length-drop at bs, whole)
-
-    -- a round that lays one more: t is the engine with its event
-    pub running-on : (t : Sequencer) → k < count → stepAt bs at s .ended ≡ 0 → t ≡ enters s (stepAt bs at s .event) → Running count bs s₀ xs₀ k at s xs
-        → Running count bs s₀ xs₀ (k + 1) (at + stepAt bs at s .size) t (set xs k (s .next))
-    unfolding stepOf
-    running-on t l z e w = go (w .left) refl
+    -- a round that pushes one more: t is the engine with its event
+    pub running-on : (t : Sequencer) (e : Event) (size : ℕ) → k < count → Pushes (drop at bs) s e size → t ≡ enters s e → Running count bs s₀ xs₀ k at s xs
+        → Running count bs s₀ xs₀ (k + 1) (at + size) t (set xs k (s .next))
+    running-on t e size l p q w = go (w .left) refl
       where
-        zeros : (stopOf (drop at bs) ≡ 0) × (refusalAt s (drop at bs) ≡ 0)
-        zeros = both-zero (stopOf (drop at bs)) (refusalAt s (drop at bs)) z
+        rest : ℕ → Pushed Sequencer
+        rest n = pushRun engineCall n (drop (at + size) bs) t
 
-        once : (n : ℕ) → pushRun engineCall (suc n) (drop at bs) s ≡ behind (s .next ∷ []) (pushRun engineCall n (drop (at + sizeOf (kindOf (drop at bs))) bs) t)
-        once n =
-            run-on engineCall n (drop at bs) s (eq-eqb _ 0 (zeros .0)) _ _ (engine-accepts s (drop at bs) (eq-eqb _ 0 (zeros .1))) refl
-            ∙ ap₂ (λ (b : List ℕ) (u : Sequencer). behind (s .next ∷ []) (pushRun engineCall n b u)) (drop-drop (sizeOf (kindOf (drop at bs))) at bs) (sym e)
+        once : (n : ℕ) → pushRun engineCall (suc n) (drop at bs) s ≡ behind (s .next ∷ []) (rest n)
+        once n = p .goes n ∙ ap₂ (λ (b : List ℕ) (u : Sequencer). behind (s .next ∷ []) (pushRun engineCall n b u)) (drop-drop size at bs) (sym q)
 
         stored : set xs k (s .next) ≡ (w .issued ++ (s .next ∷ [])) ++ drop (k + 1) xs₀
         stored =
@@ -173,21 +207,21 @@ module _ {count : ℕ} {bs : List ℕ} {s₀ : Sequencer} {xs₀ : List ℕ} whe
             ∙ sym (append-snoc (w .issued) (s .next) (drop (suc k) xs₀))
             ∙ ap (λ (j : ℕ). (w .issued ++ (s .next ∷ [])) ++ drop j xs₀) (sym (add-one k))
 
-        go : (n : ℕ) → w .left ≡ n → Running count bs s₀ xs₀ (k + 1) (at + sizeOf (kindOf (drop at bs))) t (set xs k (s .next))
-        go zero q = absurd (omega (arith, w .total, q, l))
-        go (suc n) q = record {
+        go : (n : ℕ) → w .left ≡ n → Running count bs s₀ xs₀ (k + 1) (at + size) t (set xs k (s .next))
+        go zero z = absurd (omega (arith, w .total, z, l))
+        go (suc n) z = record {
           issued = w .issued ++ (s .next ∷ []);
           left = n;
           many = omega (arith, length-append (w .issued) (s .next ∷ []), w .many);
-          total = omega (arith, w .total, q);
+          total = omega (arith, w .total, z);
           few = w .few;
           long = w .long;
-          inside = place-inside z w;
+          inside = place-inside bs at size (w .inside) (p .inside);
           slice = stored;
           gives =
-              w .gives ∙ ap (λ (m : ℕ). behind (w .issued) (pushRun engineCall m (drop at bs) s)) q ∙ ap (behind (w .issued)) (once n)
-              ∙ ap (λ (ns : List ℕ). record { state = pushRun engineCall n (drop (at + sizeOf (kindOf (drop at bs))) bs) t .state; numbers = ns; ended = pushRun engineCall n (drop (at + sizeOf (kindOf (drop at bs))) bs) t .ended })
-              (sym (append-assoc (w .issued) (s .next ∷ []) (pushRun engineCall n (drop (at + sizeOf (kindOf (drop at bs))) bs) t .numbers)));
+              w .gives ∙ ap (λ (m : ℕ). behind (w .issued) (pushRun engineCall m (drop at bs) s)) z ∙ ap (behind (w .issued)) (once n)
+              ∙ ap (λ (ns : List ℕ). record { state = rest n .state; numbers = ns; ended = rest n .ended })
+              (sym (append-assoc (w .issued) (s .next ∷ []) (rest n .numbers)));
         }
 
     -- ---- how it ends
@@ -209,60 +243,22 @@ module _ {count : ℕ} {bs : List ℕ} {s₀ : Sequencer} {xs₀ : List ℕ} whe
     run-done l w = let q : w .left ≡ 0 = omega (arith, w .total, l) in result 0 w (ap (λ (m : ℕ). pushRun engineCall m (drop at bs) s) q)
 
     -- a record, or its refusal, ends it
-    pub run-ended : k < count → (stepAt bs at s .ended ≡ 0 → ⊥) → Running count bs s₀ xs₀ k at s xs → Result count bs s₀ xs₀ k s xs (stepAt bs at s .ended)
-    unfolding stepOf
-    run-ended l z w = go (w .left) refl (eqb (stopOf (drop at bs)) 0) refl
+    pub run-ended : (x : ℕ) → k < count → Means (drop at bs) s (Stop x) → Running count bs s₀ xs₀ k at s xs → Result count bs s₀ xs₀ k s xs x
+    run-ended x l m w = go (w .left) refl
       where
-        go : (n : ℕ) → w .left ≡ n → (b : Bool) → eqb (stopOf (drop at bs)) 0 ≡ b → Result count bs s₀ xs₀ k s xs (cond (eqb (stopOf (drop at bs)) 0) (refusalAt s (drop at bs)) (stopOf (drop at bs)))
-        go zero q b e = absurd (omega (arith, w .total, q, l))
-        go (suc n) q false e = rw e (result (stopOf (drop at bs)) w (ap (λ (m : ℕ). pushRun engineCall m (drop at bs) s) q ∙ run-stops engineCall n (drop at bs) s e))
-        go (suc n) q true e =
-            let k : eqb (refusalAt s (drop at bs)) 0 ≡ false = ne-eqb (refusalAt s (drop at bs)) 0 (λ r. z (rw e r)) in
-            rw e (result (refusalAt s (drop at bs)) w (ap (λ (m : ℕ). pushRun engineCall m (drop at bs) s) q ∙ run-refused engineCall n (drop at bs) s e _ _ (engine-refuses s (drop at bs) k) k))
+        go : (n : ℕ) → w .left ≡ n → Result count bs s₀ xs₀ k s xs x
+        go zero q = absurd (omega (arith, w .total, q, l))
+        go (suc n) q = result x w (ap (λ (i : ℕ). pushRun engineCall i (drop at bs) s) q ∙ m n)
 
--- ---- the same of the step that the code has found
+-- ---- the step that the code has found
 
 -- the part of the bytes that it was lent is all of them from the place on
-pub found : (bs : List ℕ) (at : ℕ) (s : Sequencer) (st : Step) (n : ℕ) → n ≡ heldIn s → st ≡ stepOf (take (length bs - at) (drop at bs)) n (s .time) (s .next) → st ≡ stepAt bs at s
-found bs at s st n h q =
-    q ∙ ap₂ (λ (part : List ℕ) (m : ℕ). stepOf part m (s .time) (s .next)) (take-all (length bs - at) (drop at bs) (le-of-eq (length-drop at bs))) h
-
-module _ {count : ℕ} {bs : List ℕ} {s₀ : Sequencer} {xs₀ : List ℕ} {k at : ℕ} {s : Sequencer} {xs : List ℕ} (st : Step) (q : st ≡ stepAt bs at s) where
-  pub step-inside : st .ended ≡ 0 → Running count bs s₀ xs₀ k at s xs → at + st .size ≤ length bs
-  step-inside = subst (λ (x : Step). x .ended ≡ 0 → Running count bs s₀ xs₀ k at s xs → at + x .size ≤ length bs) (sym q) place-inside
-
-  pub step-on : (t : Sequencer) → k < count → st .ended ≡ 0 → t ≡ enters s (st .event) → Running count bs s₀ xs₀ k at s xs → Running count bs s₀ xs₀ (k + 1) (at + st .size) t (set xs k (s .next))
-  step-on t l =
-      subst (λ (x : Step). x .ended ≡ 0 → t ≡ enters s (x .event) → Running count bs s₀ xs₀ k at s xs → Running count bs s₀ xs₀ (k + 1) (at + x .size) t (set xs k (s .next)))
-      (sym q) (running-on t l)
-
-  pub step-ended : k < count → (st .ended ≡ 0 → ⊥) → Running count bs s₀ xs₀ k at s xs → Result count bs s₀ xs₀ k s xs (st .ended)
-  step-ended l = subst (λ (x : Step). (x .ended ≡ 0 → ⊥) → Running count bs s₀ xs₀ k at s xs → Result count bs s₀ xs₀ k s xs (x .ended)) (sym q) (run-ended l)
-
--- a push that nothing refuses finds fewer than 256 events
-not-full : (a b c d e f : Bool) → _≡_ {A = ℕ} (cond a 3 (cond b 4 (cond c 5 (cond d 18 (cond e 6 (cond f 7 0)))))) 0 → e ≡ false
-not-full true b c d e f h = absurd (omega arith)
-not-full false true c d e f h = absurd (omega arith)
-not-full false false true d e f h = absurd (omega arith)
-not-full false false false true e f h = absurd (omega arith)
-not-full false false false false true f h = absurd (omega arith)
-not-full false false false false false f h = refl
-
--- of a push's arguments
-has-room : (start end lasts fade-in fade-out : Float) (source : Source) (gain : Float) (held next : ℕ) → pushRefusal start end lasts fade-in fade-out source gain held next ≡ 0 → held < 256
-unfolding pushRefusal
-has-room start end lasts fade-in fade-out source gain held next h =
-    leb-false 256 held
-    (not-full (not (within start && withinEnd end && within fade-in && within fade-out)) (lasts <ᶠ fade-in || lasts <ᶠ fade-out) (not (finiteSource source)) (not (finite gain)) (leb 256 held) (eqb next 0) h)
-
-room-at : (bs : List ℕ) (at : ℕ) (s : Sequencer) → stepAt bs at s .ended ≡ 0 → s .«ready_len» + (s .«active_len» + s .«past_len») < 256
-unfolding stepOf
-room-at bs at s z =
-    let l : heldIn s < 256 = has-room _ _ _ _ _ _ _ _ _ (both-zero (stopOf (drop at bs)) (refusalAt s (drop at bs)) z .1) in
-    omega (arith, l)
-
-pub room : (bs : List ℕ) (at : ℕ) (s : Sequencer) (st : Step) → st ≡ stepAt bs at s → st .ended ≡ 0 → s .«ready_len» + (s .«active_len» + s .«past_len») < 256
-room bs at s st q z = room-at bs at s (sym (ap (λ (x : Step). x .ended) q) ∙ z)
+pub found : (bs : List ℕ) (at : ℕ) (s : Sequencer) (st : Step) (n : ℕ) → n ≡ heldIn s → st ≡ stepOf (take (length bs - at) (drop at bs)) n (s .time) (s .next)
+    → (x : Step) → st ≡ x → Means (drop at bs) s x
+found bs at s st n h q x e =
+    subst (Means (drop at bs) s)
+    (ap₂ (λ (part : List ℕ) (m : ℕ). stepOf part m (s .time) (s .next))
+    (sym (take-all (length bs - at) (drop at bs) (le-of-eq (length-drop at bs)))) (sym h) ∙ sym q ∙ e) (means (drop at bs) s)
 
 -- ---- the engine with one more event, as the code leaves it
 

@@ -13,7 +13,8 @@ use Rattle.ledger.specs.Calls.{Call, push, PushKind, absolute, relative, byDura
 use Rattle.apply.specs.RecordCalls.{refusalOf}
 use Rattle.ledger.specs.Ledger.{Ledger, create}
 use Rattle.ledger.specs.LedgerMeets.{pairOf}
-use Rattle.ledger.specs.Steps.{step, computes}
+use Rattle.ledger.specs.Steps.{step}
+use Rattle.ledger.specs.Computes.{computes}
 use Rattle.tape.specs.Fields.{field, fromLittleEndian}
 use Rattle.tape.specs.Tape.{pushKind, unknownPush, sizeOf, sizes, pushOf, sourceOf}
 use Rattle.batch.specs.Records.{beyond, stopOf, callOf}
@@ -26,11 +27,11 @@ times = 0 ∷ 0 ∷ 0 ∷ 0 ∷ 0 ∷ 0 ∷ 0 ∷ 0 ∷ 0 ∷ 0 ∷ 0 ∷ 0 ∷ 
 abbrev words : List ℕ
 words = 0 ∷ 0 ∷ 0x80 ∷ 0x3F ∷ 0 ∷ 0 ∷ 0 ∷ 0 ∷ []
 
-abbrev clip : List ℕ
+abbrev pub clip : List ℕ
 clip = 0x01 ∷ (times ++ (1 ∷ 0 ∷ words))
 
 -- the same from 2.0, so that its fades pass its length: 4; with an unknown curve: 14
-abbrev tooLate : List ℕ
+abbrev pub tooLate : List ℕ
 tooLate = 0x01 ∷ (0 ∷ 0 ∷ 0 ∷ 0 ∷ 0 ∷ 0 ∷ 0 ∷ 0x40 ∷ (drop 8 times ++ (1 ∷ 0 ∷ words)))
 
 abbrev noCurve : List ℕ
@@ -76,7 +77,7 @@ refusals = (refl, refl, refl, refl, refl, refl)
 
 -- ---- a run
 
-abbrev call : Ledger → Call → Ledger × Reply
+abbrev pub call : Ledger → Call → Ledger × Reply
 call l c = pairOf (step l c)
 
 unfoldable after : (count : ℕ) → (records : List ℕ) → Pushed Ledger

@@ -14,6 +14,7 @@ use Rattle.refusals.specs.Refusals.{pushRefusal}
 use Rattle.tape.specs.declared.reader.PushRecord.{PushRecord}
 use Rattle.tape.specs.Tape.{kindOf, sizeOf, pushOf}
 use Rattle.batch.specs.declared.Step.{Step}
+use Rattle.batch.specs.declared.Step.the-variants.{Stop, Push}
 use Rattle.batch.specs.Records.{stopOf, kindAt}
 
 abbrev pub recordRefusal : PushKind → PushRecord → (held next : ℕ) → ℕ
@@ -27,10 +28,10 @@ eventOf kind p clock next =
     let end = statedEnd kind start (p .«end_time») in
     newEvent (pushedTime kind clock start) (pushedTime kind clock end) (p .«fade_in») (p .«fade_out») (p .«fade_ease») (p .source) (p .gain) next
 
--- what ends the run at this record, or 0; its event; its length
+-- a record stops the run, by what it is or as a refused push, or its event is pushed and the next record begins after it
 unfoldable pub stepOf : List ℕ → (held : ℕ) → (clock : Float) → (next : ℕ) → Step
-stepOf bs held clock next = record {
-  ended = cond (eqb (stopOf bs) 0) (recordRefusal (kindAt bs) (pushOf bs) held next) (stopOf bs);
-  event = eventOf (kindAt bs) (pushOf bs) clock next;
-  size = sizeOf (kindOf bs);
-}
+stepOf bs held clock next =
+    let refusal = recordRefusal (kindAt bs) (pushOf bs) held next in
+    cond (eqb (stopOf bs) 0)
+    (cond (eqb refusal 0) (Push (eventOf (kindAt bs) (pushOf bs) clock next) (sizeOf (kindOf bs))) (Stop refusal))
+    (Stop (stopOf bs))

@@ -5,7 +5,7 @@ use mathlib.Core.List.{List, [], _∷_, _++_}
 use lib.Dec.{eqb}
 use lib.ListN.{length, drop}
 use Rattle.ledger.specs.Calls.{Call, Reply}
-use Rattle.ledger.specs.Numbers.{acceptedOf}
+use Rattle.ledger.specs.Claim.{acceptedOf}
 use Rattle.apply.specs.RecordCalls.{refusalOf}
 use Rattle.tape.specs.Tape.{kindOf, sizeOf}
 use Rattle.batch.specs.Records.{beyond, stopOf, callOf}

@@ -24,11 +24,10 @@ pub struct Batch {
     pub ended: u64,
 }
 
-// What a record does: what ends the run there, or 0; its event; and its length.
-struct Step {
-    ended: u64,
-    event: Event,
-    size: usize,
+// What a record does: it stops the run, by this number, or its event is pushed and the next record begins this many bytes on.
+enum Step {
+    Stop(u64),
+    Push(Event, usize),
 }
 
 // 16: more than 32 records, or a slice of another length than 32.
@@ -114,31 +113,29 @@ fn event_of(kind: u8, p: PushRecord, clock: f64, next: u64) -> Event
     Event::new(from, until, p.fade_in, p.fade_out, ease, source, p.gain, id)
 }
 
-// The record that begins the bytes, on an engine with so many events, this clock and this next number.
+// The record that begins the bytes, on an engine with this many events, this clock and this next number. Only a record that does not stop the run is taken
+// apart: of one that is no push nothing after the kind byte is looked at.
 fn step_of(bs: &[u8], held: usize, clock: f64, next: u64) -> Step
     ensures { λ r. ⌜ r ≡ stepOf (now (bs .entry)) held clock next ⌝ }
 {
+    let stop = stop_of(bs);
+    if stop != 0 {
+        return Step::Stop(stop);
+    }
     let byte = fields::byte(bs, 0);
     let kind = reader::plain_kind(byte);
     let p = reader::push_of(bs);
+    let refusal = refusal_of(kind, p, held, next);
+    if refusal != 0 {
+        return Step::Stop(refusal);
+    }
     let event = event_of(kind, p, clock, next);
-    let size = reader::size_of(byte);
-    let stop = stop_of(bs);
-    if stop != 0 {
-        return Step {
-            ended: stop,
-            event,
-            size,
-        };
-    }
-    Step {
-        ended: refusal_of(kind, p, held, next),
-        event,
-        size,
-    }
+    Step::Push(event, reader::size_of(byte))
 }
 
-// `count` push records from the first byte on. Their numbers go to the front of `numbers`. The engine stays in place: each event goes to its list here, and in the heap it goes up as in `Ready::push`.
+// Carries out `count` push records, from the first byte on, as single pushes. Their numbers go to the front of `numbers`; the first refused one ends it.
+// Answers how many were pushed and what ended it, 0 if nothing did. A count above 32 or a slice of another length is refused as 16, before any record is read.
+// The engine stays in place: each event goes to its list here, and in the heap it rises as in `Ready::push`.
 pub fn push_records(mut s: Sequencer, records: &[u8], count: usize, numbers: &mut [u64]) -> Batch
     ensures { λ r. ⌜ r ≡ pushRecords s (now (records .entry)) count (now (numbers .entry)) ⌝ }
     ensures { λ _. ⌜ now (numbers .exit) ≡ numbersAfter s (now (records .entry)) count (now (numbers .entry)) ⌝ }
@@ -155,39 +152,41 @@ pub fn push_records(mut s: Sequencer, records: &[u8], count: usize, numbers: &mu
     while pushed < count {
         let n = held(s.ready_len, s.active_len, s.past_len);
         let step = step_of(&records[at..], n, s.time, s.next);
-        let ended = step.ended;
-        if ended != 0 {
-            return Batch {
-                sequencer: s,
-                pushed,
-                ended,
-            };
-        }
-        let event = step.event;
-        let id = event.id;
-        numbers[pushed] = s.next;
-        s.next = std::num::wrapping_add_u64(s.next, 1);
-        pushed = pushed + 1;
-        at = at + step.size;
-        if event.start_time < s.active_threshold {
-            let m = s.active_len;
-            s.active[m] = event;
-            s.active_map[m] = id;
-            s.active_len = m + 1;
-        } else {
-            let m = s.ready_len;
-            let mut i = m;
-            while 0 < i {
-                let p = (i - 1) / 2;
-                let parent = s.ready[p];
-                if !event.precedes(parent) {
-                    break;
-                }
-                s.ready[i] = parent;
-                i = p;
+        match step {
+            Step::Stop(ended) => {
+                return Batch {
+                    sequencer: s,
+                    pushed,
+                    ended,
+                };
             }
-            s.ready[i] = event;
-            s.ready_len = m + 1;
+            Step::Push(event, size) => {
+                let id = event.id;
+                numbers[pushed] = s.next;
+                s.next = std::num::wrapping_add_u64(s.next, 1);
+                pushed = pushed + 1;
+                at = at + size;
+                if event.start_time < s.active_threshold {
+                    let m = s.active_len;
+                    s.active[m] = event;
+                    s.active_map[m] = id;
+                    s.active_len = m + 1;
+                } else {
+                    let m = s.ready_len;
+                    let mut i = m;
+                    while 0 < i {
+                        let p = (i - 1) / 2;
+                        let parent = s.ready[p];
+                        if !event.precedes(parent) {
+                            break;
+                        }
+                        s.ready[i] = parent;
+                        i = p;
+                    }
+                    s.ready[i] = event;
+                    s.ready_len = m + 1;
+                }
+            }
         }
     }
     Batch {

@@ -1,17 +1,13 @@
--- Lists of calls among which runs of push records stand, on anything that has calls, and the single calls that such a list is. Assumes nothing.
-use Prim.Native.Nat.{ℕ, zero, suc}
-use mathlib.Core.Bool.{Bool, true, false, cond}
-use mathlib.Core.Path.{_≡_, refl, sym, ap, _∙_}
+-- Lists of calls with runs of push records among them, on anything that has calls; the single calls that such a list is; and the numbers that it hands out.
+use Prim.Native.Nat.{ℕ}
+use mathlib.Core.Bool.{Bool}
+use mathlib.Core.Path.{_≡_}
 use mathlib.Core.List.{List, [], _∷_, _++_}
-use lib.Dec.{eqb}
-use lib.ListN.{length, drop}
+use lib.ListN.{length, take}
 use Rattle.ledger.specs.Calls.{Call, Reply}
-use Rattle.ledger.specs.Claim.{Engine, calls, SameReply, Lends, AllLend}
-use Rattle.tape.specs.Tape.{kindOf, sizeOf}
-use Rattle.batch.specs.Records.{beyond, stopOf, callOf}
-use Rattle.apply.specs.RecordCalls.{refusalOf}
+use Rattle.ledger.specs.Claim.{acceptedOf, Engine, calls, SameReply, Lends}
 use Rattle.batch.specs.Run.{Pushed, pushAll, written}
-use Rattle.batch_claim.specs.Singles.{Reading, reading, upToRefused, singles, as-singles}
+use Rattle.batch_claim.specs.Singles.{singles}
 
 -- a call of the plain ledger, or a run of push records with their count and the slice lent for the numbers
 pub data Item : Type 0 where
@@ -45,21 +41,22 @@ flat E [] s = []
 flat E (single c ∷ is) s = c ∷ flat E is (E .call s c .0)
 flat E (batch bs n slice ∷ is) s = singles (E .call) bs n slice s ++ flat E is (pushAll (E .call) bs n slice s .state)
 
--- ---- they leave the same
+-- their replies, item by item: of a run those of its single pushes
+unfoldable pub parts : (E : Engine) → List Item → E .State → List (List Reply)
+unfolding pushAll singles calls
+parts E [] s = []
+parts E (single c ∷ is) s = (E .call s c .1 ∷ []) ∷ parts E is (E .call s c .0)
+parts E (batch bs n slice ∷ is) s = calls E (singles (E .call) bs n slice s) s .1 ∷ parts E is (pushAll (E .call) bs n slice s .state)
 
-calls-append : (E : Engine) (ds bs : List Call) (s : E .State) → calls E (ds ++ bs) s .0 ≡ calls E bs (calls E ds s .0) .0
-unfolding calls
-calls-append E [] bs s = refl
-calls-append E (c ∷ ds) bs s = calls-append E ds bs (E .call s c .0)
+-- ---- the numbers handed out: of a single call those of its answer, of a run those that were put into its slice
 
-pub items-flat : (E : Engine) (is : List Item) (s : E .State) → items E is s .0 ≡ calls E (flat E is s) s .0
-unfolding items flat calls
-items-flat E [] s = refl
-items-flat E (single c ∷ is) s = items-flat E is (E .call s c .0)
-items-flat E (batch bs n slice ∷ is) s =
-    let p = pushAll (E .call) bs n slice s in
-    let cs = singles (E .call) bs n slice s in
-    items-flat E is (p .state) ∙ ap (λ (t : E .State). calls E (flat E is (p .state)) t .0) (as-singles E bs n slice s .state) ∙ sym (calls-append E cs (flat E is (p .state)) s)
+abbrev pub numbersOf : ItemReply → List ℕ
+numbersOf (replied r) = acceptedOf (r .answer)
+numbersOf (answered pushed ended slice) = take pushed slice
+
+abbrev pub allNumbers : List ItemReply → List ℕ
+allNumbers [] = []
+allNumbers (r ∷ l) = numbersOf r ++ allNumbers l
 
 -- ---- what is lent: a run's pushes are lent nothing
 
@@ -67,44 +64,6 @@ abbrev pub ItemsLend : (lends : Bool) → List Item → Type 0
 ItemsLend b [] = Unit {0}
 ItemsLend b (single c ∷ is) = Lends b c × ItemsLend b is
 ItemsLend b (batch bs n slice ∷ is) = ItemsLend b is
-
-lend-append : (b : Bool) (ds bs : List Call) → AllLend b ds → AllLend b bs → AllLend b (ds ++ bs)
-lend-append b [] bs h k = k
-lend-append b (c ∷ ds) bs h k = (h .0, lend-append b ds bs (h .1) k)
-
-pub lend-reading : (b : Bool) (n : ℕ) (bs : List ℕ) → AllLend b (reading n bs .calls)
-unfolding reading callOf
-lend-reading b zero bs = tt
-lend-reading b (suc n) bs = go (eqb (stopOf bs) 0) (lend-reading b n (drop (sizeOf (kindOf bs)) bs))
-  where
-    go : (t : Bool) → AllLend b (reading n (drop (sizeOf (kindOf bs)) bs) .calls)
-        → AllLend b ((cond {A = Reading} t (record { calls = callOf bs ∷ reading n (drop (sizeOf (kindOf bs)) bs) .calls; stop = reading n (drop (sizeOf (kindOf bs)) bs) .stop }) (record { calls = []; stop = stopOf bs })) .calls)
-    go true ih = (tt, ih)
-    go false ih = tt
-
-lend-made : {S : Type 0} (call : S → Call → S × Reply) (b : Bool) (cs : List Call) (s : S) → AllLend b cs → AllLend b (upToRefused call cs s)
-unfolding upToRefused
-lend-made call b [] s h = tt
-lend-made call b (c ∷ cs) s h = (h .0, go (eqb (refusalOf (call s c .1 .answer)) 0) (lend-made call b cs (call s c .0) (h .1)))
-  where
-    go : (t : Bool) → AllLend b (upToRefused call cs (call s c .0)) → AllLend b (cond t (upToRefused call cs (call s c .0)) [])
-    go true ih = ih
-    go false ih = tt
-
-lend-singles : {S : Type 0} (call : S → Call → S × Reply) (b : Bool) (bs : List ℕ) (n : ℕ) (slice : List ℕ) (s : S) → AllLend b (singles call bs n slice s)
-unfolding singles
-lend-singles call b bs n slice s = go (beyond n (length slice))
-  where
-    go : (t : Bool) → AllLend b (cond t [] (upToRefused call (reading n bs .calls) s))
-    go true = tt
-    go false = lend-made call b (reading n bs .calls) s (lend-reading b n bs)
-
-pub lend-flat : (b : Bool) (E : Engine) (is : List Item) (s : E .State) → ItemsLend b is → AllLend b (flat E is s)
-unfolding flat
-lend-flat b E [] s h = tt
-lend-flat b E (single c ∷ is) s h = (h .0, lend-flat b E is (E .call s c .0) (h .1))
-lend-flat b E (batch bs n slice ∷ is) s h =
-    lend-append b (singles (E .call) bs n slice s) (flat E is (pushAll (E .call) bs n slice s .state)) (lend-singles (E .call) b bs n slice s) (lend-flat b E is (pushAll (E .call) bs n slice s .state) h)
 
 -- ---- equal replies
 

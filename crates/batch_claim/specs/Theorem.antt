@@ -1,4 +1,6 @@
--- Demand 3 with document 02's Paper 1: after any list of calls among which runs of push records stand, the engine, every answer, every number and every sample are the plain ledger's. It is demand 3's claim about the single calls that the list is; nothing here looks at what a call is. Assumes nothing.
+-- Demand 3 with document 02's Paper 1 (WithBatches.antt): after any list of calls with runs of push records among them the engine, every answer, every number
+-- and every sample are the plain ledger's. It is demand 3's claim about the single calls that the list is; nothing here looks at what a call is.
+-- Assumes nothing.
 use Prim.Native.Nat.{ℕ, zero, suc, _^_, _<_}
 use mathlib.Core.Bool.{Bool, true, false, cond}
 use mathlib.Core.Path.{_≡_, refl, sym, ap, ap₂, _∙_, subst}
@@ -10,40 +12,22 @@ use Rattle.event.specs.declared.ReplayMode.{ReplayMode}
 use Rattle.ledger.specs.Calls.{Call, Answer, Reply}
 use Rattle.ledger.specs.Ledger.{Ledger, create}
 use Rattle.ledger.specs.Steps.{step, run}
-use Rattle.ledger.specs.Numbers.{acceptedOf}
 use Rattle.ledger.specs.Lawful.{Lawful, create-lawful, step-lawful}
-use Rattle.ledger.specs.LedgerMeets.{pairOf, engineOf}
-use Rattle.ledger.specs.Claim.{Engine, calls, engineAfter, ledgerAfter, SameReply, Lends, AllLend, ClaimAt}
+use Rattle.ledger.specs.Claim.{acceptedOf, accepted, calls, engineAfter, ledgerAfter, SameReply, AllLend}
 use Rattle.sequencer.specs.declared.Sequencer.{Sequencer}
 use Rattle.claim.specs.Related.{Related}
 use Rattle.claim.specs.Creating.{related-creation}
 use Rattle.claim.specs.EngineCalls.{engineNew, engine}
 use Rattle.claim.specs.Steps.{keep}
-use Rattle.claim.specs.Theorem.{claim}
+use Rattle.claim.specs.Theorem.{claim, after}
 use Rattle.tape.specs.Tape.{kindOf, sizeOf}
 use Rattle.batch.specs.Records.{beyond, stopOf, callOf}
 use Rattle.apply.specs.RecordCalls.{refusalOf}
 use Rattle.batch.specs.Run.{Pushed, ends, behind, pushRun, pushAll, written}
 use Rattle.batch_claim.specs.Singles.{reading, upToRefused, singles}
-use Rattle.batch_claim.specs.Lists.{Item, single, batch, ItemReply, answerOf, items, flat, items-flat, ItemsLend, lend-reading, lend-flat, SameItem, SameItems}
-
--- the plain ledger as something that has calls
-abbrev pub plain : Engine
-plain = engineOf false (λ l c. pairOf (step l c))
-
--- the single calls of a list, by the ledger, from a creation on
-abbrev pub singleCalls : (channels : ℕ) → ReplayMode → (first : ℕ) → List Item → List Call
-singleCalls channels mode first is = flat plain is (create channels mode first .ledger)
-
-pub record WithBatches (channels : ℕ) (mode : ReplayMode) (first : ℕ) (is : List Item) : Type 0 where
-  -- the engine after the list is the engine after the single calls
-  pub state : items engine is (engineNew channels mode first .0) .0 ≡ calls engine (singleCalls channels mode first is) (engineNew channels mode first .0) .0
-  -- and so is the ledger
-  pub ledger : items plain is (create channels mode first .ledger) .0 ≡ ledgerAfter channels mode first (singleCalls channels mode first is) .ledger
-  -- of which demand 3's claim holds
-  pub claimed : ClaimAt (engineAfter engine channels mode first (singleCalls channels mode first is)) (ledgerAfter channels mode first (singleCalls channels mode first is))
-  -- what each call and each run of the list gives back, lent slices too, is the ledger's
-  pub replies : SameItems (items engine is (engineNew channels mode first .0) .1) (items plain is (create channels mode first .ledger) .1)
+use Rattle.batch_claim.specs.Lists.{Item, single, batch, ItemReply, answerOf, items, flat, parts, numbersOf, allNumbers, ItemsLend, SameItem, SameItems}
+use Rattle.batch_claim.specs.ListsProof.{items-flat, lend-reading, lend-flat, parts-whole, numbers-by-item, numbers-flat}
+use Rattle.batch_claim.specs.WithBatches.{plain, singleCalls, engineThen, ledgerThen, repliesThen, WithBatches}
 
 -- ---- one run
 
@@ -60,7 +44,8 @@ ledgerCall = plain .call
 module _ (n : ℕ) (bs : List ℕ) (s : Sequencer) (l : Ledger) (w : Lawful l) (r : Related s l) where
   -- a record, where the rest is known
   one-more : (let c = callOf bs in let rest = drop (sizeOf (kindOf bs)) bs in
-      (Related (engine .call s c .0) (step l c .ledger) → Lawful (step l c .ledger) → Alike (pushRun (engine .call) n rest (engine .call s c .0)) (pushRun ledgerCall n rest (step l c .ledger))))
+      (Related (engine .call s c .0) (step l c .ledger) → Lawful (step l c .ledger)
+      → Alike (pushRun (engine .call) n rest (engine .call s c .0)) (pushRun ledgerCall n rest (step l c .ledger))))
       → Alike (pushRun (engine .call) (suc n) bs s) (pushRun ledgerCall (suc n) bs l)
   unfolding pushRun callOf
   one-more next = go (eqb (stopOf bs) 0)
@@ -80,22 +65,28 @@ module _ (n : ℕ) (bs : List ℕ) (s : Sequencer) (l : Ledger) (w : Lawful l) (
       rest : List ℕ
       rest = drop (sizeOf (kindOf bs)) bs
 
-      after : Alike (pushRun (engine .call) n rest (engine .call s c .0)) (pushRun ledgerCall n rest (step l c .ledger))
-      after = next (k .0) (step-lawful l c w)
+      rest-alike : Alike (pushRun (engine .call) n rest (engine .call s c .0)) (pushRun ledgerCall n rest (step l c .ledger))
+      rest-alike = next (k .0) (step-lawful l c w)
 
-      accept : (x : Answer) → a ≡ x → b ≡ x → (t : Bool)
-          → Alike (cond t (behind (acceptedOf a) (pushRun (engine .call) n rest (engine .call s c .0))) (ends (engine .call s c .0) (refusalOf a)))
-          (cond t (behind (acceptedOf b) (pushRun ledgerCall n rest (step l c .ledger))) (ends (step l c .ledger) (refusalOf b)))
-      accept x p q true = record { related = after .related; lawful = after .lawful; numbers = ap₂ (λ (y : Answer) (ns : List ℕ). acceptedOf y ++ ns) (p ∙ sym q) (after .numbers); ended = after .ended }
-      accept x p q false = record { related = k .0; lawful = step-lawful l c w; numbers = refl; ended = ap refusalOf (p ∙ sym q) }
+      on-engine : (accepted : Bool) → Pushed Sequencer
+      on-engine t = cond t (behind (acceptedOf a) (pushRun (engine .call) n rest (engine .call s c .0))) (ends (engine .call s c .0) (refusalOf a))
 
-      go : (t : Bool)
-          → Alike (cond t (cond (eqb (refusalOf a) 0) (behind (acceptedOf a) (pushRun (engine .call) n rest (engine .call s c .0))) (ends (engine .call s c .0) (refusalOf a))) (ends s (stopOf bs)))
-          (cond t (cond (eqb (refusalOf b) 0) (behind (acceptedOf b) (pushRun ledgerCall n rest (step l c .ledger))) (ends (step l c .ledger) (refusalOf b))) (ends l (stopOf bs)))
+      on-ledger : (accepted : Bool) → Pushed Ledger
+      on-ledger t = cond t (behind (acceptedOf b) (pushRun ledgerCall n rest (step l c .ledger))) (ends (step l c .ledger) (refusalOf b))
+
+      accept : (t : Bool) → Alike (on-engine t) (on-ledger t)
+      accept true = record {
+        related = rest-alike .related;
+        lawful = rest-alike .lawful;
+        numbers = ap₂ (λ (y : Answer) (ns : List ℕ). acceptedOf y ++ ns) (k .1 .answer) (rest-alike .numbers);
+        ended = rest-alike .ended;
+      }
+      accept false = record { related = k .0; lawful = step-lawful l c w; numbers = refl; ended = ap refusalOf (k .1 .answer) }
+
+      go : (t : Bool) → Alike (cond t (on-engine (eqb (refusalOf a) 0)) (ends s (stopOf bs))) (cond t (on-ledger (eqb (refusalOf b) 0)) (ends l (stopOf bs)))
       go true =
-          subst (λ (t : Bool). Alike (cond (eqb (refusalOf a) 0) (behind (acceptedOf a) (pushRun (engine .call) n rest (engine .call s c .0))) (ends (engine .call s c .0) (refusalOf a)))
-          (cond t (behind (acceptedOf b) (pushRun ledgerCall n rest (step l c .ledger))) (ends (step l c .ledger) (refusalOf b))))
-          (ap (λ (y : Answer). eqb (refusalOf y) 0) (k .1 .answer)) (accept b (k .1 .answer) refl (eqb (refusalOf a) 0))
+          subst (λ (u : Bool). Alike (on-engine (eqb (refusalOf a) 0)) (on-ledger u)) (ap (λ (y : Answer). eqb (refusalOf y) 0) (k .1 .answer))
+          (accept (eqb (refusalOf a) 0))
       go false = record { related = r; lawful = w; numbers = refl; ended = refl }
 
 run-alike : (n : ℕ) (bs : List ℕ) (s : Sequencer) (l : Ledger) → Lawful l → Related s l → Alike (pushRun (engine .call) n bs s) (pushRun ledgerCall n bs l)
@@ -104,7 +95,8 @@ run-alike zero bs s l w r = record { related = r; lawful = w; numbers = refl; en
 run-alike (suc n) bs s l w r =
     one-more n bs s l w r (λ q v. run-alike n (drop (sizeOf (kindOf bs)) bs) (engine .call s (callOf bs) .0) (step l (callOf bs) .ledger) v q)
 
-all-alike : (bs : List ℕ) (n : ℕ) (slice : List ℕ) (s : Sequencer) (l : Ledger) → Lawful l → Related s l → Alike (pushAll (engine .call) bs n slice s) (pushAll ledgerCall bs n slice l)
+all-alike : (bs : List ℕ) (n : ℕ) (slice : List ℕ) (s : Sequencer) (l : Ledger) → Lawful l → Related s l
+    → Alike (pushAll (engine .call) bs n slice s) (pushAll ledgerCall bs n slice l)
 unfolding pushAll
 all-alike bs n slice s l w r = go (beyond n (length slice))
   where
@@ -115,7 +107,8 @@ all-alike bs n slice s l w r = go (beyond n (length slice))
 -- ---- the list
 
 -- the single calls are the same by the engine and by the ledger
-made-alike : (cs : List Call) → AllLend false cs → (s : Sequencer) (l : Ledger) → Lawful l → Related s l → upToRefused (engine .call) cs s ≡ upToRefused ledgerCall cs l
+made-alike : (cs : List Call) → AllLend false cs → (s : Sequencer) (l : Ledger) → Lawful l → Related s l
+    → upToRefused (engine .call) cs s ≡ upToRefused ledgerCall cs l
 unfolding upToRefused
 made-alike [] h s l w r = refl
 made-alike (c ∷ cs) h s l w r =
@@ -123,7 +116,8 @@ made-alike (c ∷ cs) h s l w r =
     let ih = made-alike cs (h .1) (engine .call s c .0) (step l c .ledger) (step-lawful l c w) (k .0) in
     ap₂ (λ (a : Answer) (ds : List Call). c ∷ cond (eqb (refusalOf a) 0) ds []) (k .1 .answer) ih
 
-singles-alike : (bs : List ℕ) (n : ℕ) (slice : List ℕ) (s : Sequencer) (l : Ledger) → Lawful l → Related s l → singles (engine .call) bs n slice s ≡ singles ledgerCall bs n slice l
+singles-alike : (bs : List ℕ) (n : ℕ) (slice : List ℕ) (s : Sequencer) (l : Ledger) → Lawful l → Related s l
+    → singles (engine .call) bs n slice s ≡ singles ledgerCall bs n slice l
 unfolding singles
 singles-alike bs n slice s l w r = ap (cond (beyond n (length slice)) []) (made-alike (reading n bs .calls) (lend-reading false n bs) s l w r)
 
@@ -152,7 +146,8 @@ run-calls [] l = refl
 run-calls (c ∷ cs) l = run-calls cs (step l c .ledger)
 
 -- From any fresh engine (a first number is a u64), after any list of calls and runs of records; blocks are lent no scratch.
-pub with-batches : (channels : ℕ) (mode : ReplayMode) (first : ℕ) (is : List Item) → first < 2 ^ 64 → ItemsLend (engine .lends) is → WithBatches channels mode first is
+pub with-batches : (channels : ℕ) (mode : ReplayMode) (first : ℕ) (is : List Item) → first < 2 ^ 64 → ItemsLend (engine .lends) is
+    → WithBatches channels mode first is
 with-batches channels mode first is b h =
     let s = engineNew channels mode first .0 in
     let l = create channels mode first .ledger in
@@ -161,6 +156,25 @@ with-batches channels mode first is b h =
     record {
       state = items-flat engine is s ∙ ap (λ (cs : List Call). calls engine cs s .0) (f .calls-same);
       ledger = items-flat plain is l ∙ run-calls (flat plain is l) l;
+      lent = lend-flat false plain is l h;
       claimed = claim channels mode first (flat plain is l) b (lend-flat false plain is l h);
       replies = f .replies-same;
+      numbers = numbers-flat engine is s ∙ ap (λ (cs : List Call). accepted (calls engine cs s .1)) (f .calls-same);
+      slices = numbers-by-item engine is s;
+      parted = parts-whole engine is s ∙ ap (λ (cs : List Call). calls engine cs s .1) (f .calls-same);
     }
+
+-- So every theorem about lists of calls is one about lists with runs: what holds of the engine, the ledger and the numbers issued after each list of single
+-- calls holds after each list with runs.
+pub with-runs : (P : Sequencer → Ledger → (numbers : List ℕ) → Type 0) (channels : ℕ) (mode : ReplayMode) (first : ℕ) → first < 2 ^ 64
+    → ((cs : List Call) → AllLend (engine .lends) cs
+    → P (after channels mode first cs) (ledgerAfter channels mode first cs .ledger) (accepted (engineAfter engine channels mode first cs .replies)))
+    → (is : List Item) → ItemsLend (engine .lends) is
+    → P (engineThen channels mode first is) (ledgerThen channels mode first is) (allNumbers (repliesThen channels mode first is))
+with-runs P channels mode first b holds is h =
+    let w = with-batches channels mode first is b h in
+    let cs = singleCalls channels mode first is in
+    let ns = allNumbers (repliesThen channels mode first is) in
+    subst (λ (s : Sequencer). P s (ledgerThen channels mode first is) ns) (sym (w .state))
+    (subst (λ (l : Ledger). P (after channels mode first cs) l ns) (sym (w .ledger))
+    (subst (P (after channels mode first cs) (ledgerAfter channels mode first cs .ledger)) (sym (w .numbers)) (holds cs (w .lent))))

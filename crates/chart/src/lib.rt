@@ -26,16 +26,14 @@ fn least(a: u64, b: u64) -> u64
 pub fn micros(clock: f64) -> u64
     ensures { λ r. ⌜ r ≡ microsOf clock ⌝ }
 {
-    let i = floats::sample_index(clock * 1000000.0);
-    least(i.index, LATEST)
+    least(floats::nearest_index(clock * 1000000.0), LATEST)
 }
 
 // A number in thousandths, to the nearest; 0 for a NaN and below 0.
 pub fn thousandths(x: f64) -> u64
     ensures { λ r. ⌜ r ≡ thousandthsOf x ⌝ }
 {
-    let i = floats::sample_index(x * 1000.0);
-    i.index
+    floats::nearest_index(x * 1000.0)
 }
 
 // So long after a time.

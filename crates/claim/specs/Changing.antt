@@ -18,7 +18,8 @@ use Rattle.lists.specs.declared.Found.the-variants.{At, Nothing}
 use Rattle.lists.specs.EditList.{edits-insert}
 use Rattle.lists.specs.Index.{foundId}
 use Rattle.lists.specs.Numbered.{place-none, none-place}
-use Rattle.lists.specs.Sounding.{placeFound, index-find, listed-edit}
+use Rattle.lists.specs.Sounding.{index-find, listed-edit}
+use Rattle.lists.specs.PlaceFound.{placeFound}
 use Rattle.sequencer.specs.declared.Sequencer.{Sequencer}
 use Rattle.sequencer.specs.declared.Outcome.{Outcome}
 use Rattle.sequencer.specs.Answers.{answerOf}

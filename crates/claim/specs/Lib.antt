@@ -8,6 +8,7 @@ pub mod Resetting
 pub mod Changing
 pub mod Creating
 pub mod View
+pub mod Shows
 pub mod RefusalsAgree
 pub mod Passes
 pub mod SamplesAgree

@@ -23,7 +23,7 @@ use Rattle.lists.specs.declared.FoundEdit.{FoundEdit}
 use Rattle.lists.specs.declared.FoundEdit.the-variants.{Stored, Missing}
 use Rattle.lists.specs.Edits.{foundEdit}
 use Rattle.lists.specs.EditList.{editFound}
-use Rattle.lists.specs.Sounding.{placeFound}
+use Rattle.lists.specs.PlaceFound.{placeFound}
 use Rattle.lists.specs.Numbered.{place-none, none-place}
 use Rattle.ledger.specs.Calls.{PushKind, EditKind, push, edit, tick, block, rate}
 use Rattle.ledger.specs.Lists.{has, placeOf, editOf}

@@ -20,7 +20,8 @@ use Rattle.lists.specs.declared.Found.{Found}
 use Rattle.lists.specs.declared.Found.the-variants.{At, Nothing}
 use Rattle.sequencer.specs.declared.Sequencer.{Sequencer}
 use Rattle.sequencer.specs.declared.Outcome.{Outcome}
-use Rattle.sequencer.specs.Answers.{answerOf, accepts, renders, refuses}
+use Rattle.sequencer.specs.Answers.{answerOf, accepts}
+use Rattle.sequencer.specs.Outcomes.{renders, refuses}
 use Rattle.sequencer.specs.Pushes.{admitted, pushesTo, pushes}
 use Rattle.sequencer.specs.Edits.{changedBy, changed, amended, edits}
 use Rattle.sequencer.specs.Readers.{placeIn}

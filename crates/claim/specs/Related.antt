@@ -6,7 +6,7 @@ use lib.ListN.{getD, set, length}
 use borrow.Author.Tests.{lt-ltb}
 use Rattle.event.specs.declared.Event.{Event}
 use Rattle.event.specs.declared.StoredEdit.{StoredEdit}
-use Rattle.event.specs.Events.{blank}
+use Rattle.event.specs.Blank.{blank}
 use Rattle.ledger.specs.Ledger.{Ledger}
 use Rattle.ledger.specs.Lists.{insert}
 use Rattle.ledger.specs.Sorted.{Sorted}

@@ -8,7 +8,8 @@ use lib.Seq.{drop-cons, take-suc-set, drop-set-lt}
 use Rattle.event.specs.declared.Event.{Event}
 use Rattle.event.specs.declared.ReplayMode.{ReplayMode}
 use Rattle.event.specs.declared.ReplayMode.the-variants.{All, None}
-use Rattle.event.specs.Events.{blank, rewound}
+use Rattle.event.specs.Events.{rewound}
+use Rattle.event.specs.Blank.{blank}
 use Rattle.ledger.specs.Lists.{numbers}
 use Rattle.ledger.specs.Ledger.{Ledger}
 use Rattle.ledger.specs.Steps.{everything, restart}

@@ -9,11 +9,13 @@ use lib.Ieee.{Float}
 use lib.ListN.{length, take, replicate, length-replicate}
 use lib.Seq.{take-all}
 use Rattle.event.specs.declared.Event.{Event}
-use Rattle.event.specs.Events.{blank, withUnit}
+use Rattle.event.specs.Events.{withUnit}
+use Rattle.event.specs.Blank.{blank}
 use Rattle.event.specs.declared.MixOrder.{MixOrder}
 use Rattle.event.specs.declared.MixOrder.the-variants.{Forward, Backward}
 use Rattle.event.specs.declared.Placings.{Placings}
-use Rattle.event.specs.Placings.{noPlacings, addAll, addAll-append, addAll-swap, tally, counts-agree}
+use Rattle.event.specs.Placings.{noPlacings, tally}
+use Rattle.event.specs.PlacingCounts.{addAll, addAll-append, addAll-swap, counts-agree}
 use Rattle.event.specs.Sources.{advancedBy}
 use Rattle.floats.specs.Arithmetic.{zeroᶠ}
 use Rattle.lists.specs.Holds.{holds-to, holds-length}
@@ -21,7 +23,8 @@ use Rattle.lists.specs.Sounding.{idOf}
 use Rattle.ledger.specs.TickSamples.{afterTick, tickSum}
 use Rattle.ledger.specs.BlockSamples.{Span, firstPlace, endPlace, channelAfter, scratchAfter, afterBlock, blockSum}
 use Rattle.ledger.specs.FormerMethod as Former
-use Rattle.ledger.specs.Places.{eventPlacings, placings, placings-within}
+use Rattle.ledger.specs.Places.{eventPlacings, placings}
+use Rattle.ledger.specs.PlacesWithin.{placings-within}
 use Rattle.ledger.specs.Ledger.{Ledger}
 use Rattle.ledger.specs.Steps as Plain
 use Rattle.ledger.specs.Steps.{cleared, inOrder}

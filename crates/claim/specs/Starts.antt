@@ -13,7 +13,8 @@ use Rattle.event.specs.declared.Event.{Event}
 use Rattle.event.specs.declared.EventId.{EventId}
 use Rattle.event.specs.declared.Edit.{Edit}
 use Rattle.event.specs.declared.StoredEdit.{StoredEdit}
-use Rattle.event.specs.Events.{blank, numberOf, editedBy}
+use Rattle.event.specs.Events.{numberOf, editedBy}
+use Rattle.event.specs.Blank.{blank}
 use Rattle.ledger.specs.Ledger.{Ledger}
 use Rattle.ledger.specs.Lists.{start, Started, withEdit, editOf, dropEdit}
 use Rattle.ledger.specs.Sorted.{Sorted}

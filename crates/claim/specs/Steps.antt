@@ -37,7 +37,8 @@ use Rattle.ledger.specs.LedgerMeets.{same-reply}
 use Rattle.ledger.specs.Claim.{SameReply, Lends}
 use Rattle.sequencer.specs.declared.Sequencer.{Sequencer}
 use Rattle.sequencer.specs.declared.Outcome.{Outcome}
-use Rattle.sequencer.specs.Answers.{answerOf, accepts, renders, refuses}
+use Rattle.sequencer.specs.Answers.{answerOf, accepts}
+use Rattle.sequencer.specs.Outcomes.{renders, refuses}
 use Rattle.sequencer.specs.Parts.{withSounding}
 use Rattle.sequencer.specs.Moves.{advanced}
 use Rattle.refusals.specs.Refusals.{pushRefusal, editRefusal, tickRefusal, processRefusal, rateRefusal}

@@ -10,7 +10,7 @@ use lib.Seq.{getD-append-add}
 use borrow.Author.Tests.{lt-ltb, le-ltb, le-leb}
 use Rattle.event.specs.declared.Event.{Event}
 use Rattle.event.specs.declared.StoredEdit.{StoredEdit}
-use Rattle.event.specs.Events.{blank}
+use Rattle.event.specs.Blank.{blank}
 use Rattle.ledger.specs.Ledger.{Ledger}
 use Rattle.ledger.specs.Lists.{lastFirst, Swept, sweep}
 use Rattle.ledger.specs.Sums.{length-lastFirst}

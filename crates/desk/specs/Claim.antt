@@ -10,12 +10,11 @@ use Rattle.event.specs.declared.ReplayMode.{ReplayMode}
 use Rattle.floats.specs.Arithmetic.{_<ᶠ_}
 use Rattle.event.specs.Events.{newEvent}
 use Rattle.ledger.specs.Calls as Calls
-use Rattle.ledger.specs.Calls.{isRelative, endRelative}
+use Rattle.desk.specs.Relative.{isRelative, endRelative}
 use Rattle.ledger.specs.Lists.{numbers}
 use Rattle.ledger.specs.Ledger.{create}
 use Rattle.ledger.specs.Refusals.{statedEnd}
-use Rattle.ledger.specs.Numbers.{among, times}
-use Rattle.ledger.specs.Claim.{View, SameState, IndexGivesPlaces}
+use Rattle.ledger.specs.Claim.{among, times, View, SameState, IndexGivesPlaces}
 use Rattle.desk.specs.Desk.{Message, push, edit, reset, Call, front, back, Answer, number, queued, done, rendered, refused, Reply, Desk, nextNumber, opened, run}
 
 -- ---- a desk with an engine

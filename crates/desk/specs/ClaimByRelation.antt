@@ -12,12 +12,12 @@ use Rattle.event.specs.declared.Event.{Event}
 use Rattle.event.specs.declared.ReplayMode.{ReplayMode}
 use Rattle.ledger.specs.Lists.{numbers}
 use Rattle.ledger.specs.Ledger.{create}
-use Rattle.ledger.specs.Numbers.{among, times, upFrom}
+use Rattle.ledger.specs.Numbers.{upFrom}
+use Rattle.ledger.specs.Claim.{among, times, Counts, countsOf, SameState, IndexGivesPlaces}
 use Rattle.ledger.specs.Sums.{eventSum, numberSum, numberSum-append, numberSum-numbers, eventSum-one, eventSum-perm}
 use Rattle.ledger.specs.Conservation.{byNumber}
 use Rattle.ledger.specs.Partition.{is, times-is}
 use Rattle.ledger.specs.Lawful.{Lawful}
-use Rattle.ledger.specs.Claim.{Counts, countsOf, SameState, IndexGivesPlaces}
 use Rattle.desk.specs.Desk.{Message, push, edit, reset, Call, Reply, Desk, pushesIn, nextNumber, opened, step, run}
 use Rattle.desk.specs.Claim.{DeskView, DeskEngine, calls, engineAfter, sentFrom, sentNumbers, accepted, DeskClaim}
 use Rattle.desk.specs.Lawful.{DeskLawful}

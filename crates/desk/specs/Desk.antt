@@ -18,7 +18,7 @@ use Rattle.ledger.specs.Calls.{PushKind, EditKind}
 use Rattle.ledger.specs.Lists.{numbers}
 use Rattle.ledger.specs.Ledger.{Ledger, held}
 use Rattle.ledger.specs.Refusals.{Check, refuses, firstOf, within, withinEnd, statedEnd, pushChecksAt, refusal}
-use Rattle.ledger.specs.Steps as Steps
+use Rattle.ledger.specs.Computes as Ledgers
 use Rattle.ledger.specs.Steps.{withLists, accept, restart, blockPlaces}
 
 -- ---- calls and answers
@@ -215,5 +215,5 @@ run (c ∷ cs) d =
 
 -- What a case that computes must unfold.
 unfoldable pub computes : Unit {0}
-unfolding Steps.computes sendFinished restarted drain frontChecks deskRefusal sends acts carriedOut decide step run
+unfolding Ledgers.computes sendFinished restarted drain frontChecks deskRefusal sends acts carriedOut decide step run
 computes = tt

@@ -1,4 +1,6 @@
+pub mod Relative
 pub mod Desk
+pub mod MixOrders
 pub mod Claim
 pub mod FreshEnd
 pub mod LetGo

@@ -18,8 +18,9 @@ use Rattle.ledger.specs.Lists.{numbers, has}
 use Rattle.ledger.specs.Ledger.{Ledger, held, create}
 use Rattle.ledger.specs.Refusals.{editEnd}
 use Rattle.ledger.specs.Steps.{change, accept, advance, setRate, restart}
-use Rattle.ledger.specs.Numbers as Numbers
-use Rattle.ledger.specs.Numbers.{among, times, upFrom}
+use Rattle.ledger.specs.Numbers.{upFrom}
+use Rattle.ledger.specs.Claim as Plain
+use Rattle.ledger.specs.Claim.{among, times}
 use Rattle.ledger.specs.Sums.{numberSum, numberSum-append, numberSum-numbers, numberSum-one, eventSum-one}
 use Rattle.ledger.specs.Conservation.{fourSum, accept-adds}
 use Rattle.ledger.specs.Partition as Ledgers
@@ -80,7 +81,7 @@ upFrom-last : (u : ℕ → ℕ) (a n : ℕ) → numberSum u (upFrom a (suc n)) �
 upFrom-last u a zero = let z : a + 0 ≡ a = omega arith in rw z (omega arith)
 upFrom-last u a (suc n) = let z : a + suc n ≡ suc a + n = omega arith in rw z (omega (arith, upFrom-last u (suc a) n))
 
-change-answers : (l : Ledger) (k : ℕ) (x : Edit) (a b : Bool) → Numbers.acceptedOf (change l k x a b .reply .answer) ≡ []
+change-answers : (l : Ledger) (k : ℕ) (x : Edit) (a b : Bool) → Plain.acceptedOf (change l k x a b .reply .answer) ≡ []
 unfolding change
 change-answers l k x true b = refl
 change-answers l k x false true = refl

@@ -20,6 +20,7 @@ use Rattle.ledger.specs.Lawful.{Lawful}
 use Rattle.refusals.specs.Refusals.{tickRefusal, processRefusal, rateRefusal}
 use Rattle.sequencer.specs.declared.Sequencer.{Sequencer}
 use Rattle.sequencer.specs.Answers as Engine
+use Rattle.sequencer.specs.Outcomes as Outcomes
 use Rattle.sequencer.specs.Rendering as Rendering
 use Rattle.sequencer.specs.Rendering.{renderedTick, renderedTickOut, renderedBlock, renderedPlaces, renderedBlockOut}
 use Rattle.sequencer.specs.Resets.{reRated}
@@ -63,7 +64,7 @@ module _ (s : Sequencer) (l : Ledger) (w : Lawful l) (r : Related s l) where
       let c = Calls.tick order pool out in
       let n = tickRefusal (length out) (s .outputs) (s .time) (s .«sample_duration») in
       let P : ℕ → Option ℕ → Type 0 = λ m o.
-      Claim.Keeps (EngineClaim.gives (cond (eqb m 0) (Engine.accepts (renderedTick order pool s)) (Engine.refuses s m)) (cond (eqb m 0) (renderedTickOut order pool s out) out)) (Steps.decide o l c) in
+      Claim.Keeps (EngineClaim.gives (cond (eqb m 0) (Engine.accepts (renderedTick order pool s)) (Outcomes.refuses s m)) (cond (eqb m 0) (renderedTickOut order pool s out) out)) (Steps.decide o l c) in
       let z : n ≡ 0 = subst (Agrees n) h (tick-refused l order pool out (s .outputs) (s .time) (s .«sample_duration») (r .plain .4) (r .plain .0) (r .plain .3)) in
       let k : P 0 none = subst (P 0) h (subst (λ (m : ℕ). P m (refusal l c)) z (Claim.keep-tick s l order pool out w r)) in
       (k .0, k .1 .out)
@@ -75,7 +76,7 @@ module _ (s : Sequencer) (l : Ledger) (w : Lawful l) (r : Related s l) where
       let c = Calls.block order size pool out none in
       let n = processRefusal size (length out) (s .outputs) (s .time) (s .«sample_duration») in
       let P : ℕ → Option ℕ → Type 0 = λ m o.
-      Claim.Keeps (EngineClaim.gives (cond (eqb m 0) (Engine.renders (renderedBlock order pool size s) (renderedPlaces order size s)) (Engine.refuses s m)) (cond (eqb m 0) (renderedBlockOut order pool size s out) out)) (Steps.decide o l c) in
+      Claim.Keeps (EngineClaim.gives (cond (eqb m 0) (Outcomes.renders (renderedBlock order pool size s) (renderedPlaces order size s)) (Outcomes.refuses s m)) (cond (eqb m 0) (renderedBlockOut order pool size s out) out)) (Steps.decide o l c) in
       let z : n ≡ 0 = subst (Agrees n) h (block-refused l order size pool out (s .outputs) (s .time) (s .«sample_duration») (r .plain .4) (r .plain .0) (r .plain .3)) in
       let k : P 0 none = subst (P 0) h (subst (λ (m : ℕ). P m (refusal l c)) z (Claim.keep-block s l order size pool out w r)) in
       (k .0, k .1 .out, ap placesIn (k .1 .answer))

@@ -12,7 +12,7 @@ use Rattle.ledger.specs.Ledger.{Ledger}
 use Rattle.ledger.specs.Refusals.{statedEnd}
 use Rattle.desk.specs.Desk as Plain
 use Rattle.desk.specs.Desk.{push, edit, reset, Desk, pushesIn, drain}
-use Rattle.ledger.specs.Calls.{isRelative, endRelative}
+use Rattle.desk.specs.Relative.{isRelative, endRelative}
 use Rattle.desk.specs.Lawful as Laws
 use Rattle.desk.specs.Lawful.{DeskLawful, deskOf, handled-lawful, drain-lawful, drain-queued}
 use Rattle.realseq.specs.declared.SequencerBackend.{SequencerBackend}

@@ -21,6 +21,9 @@ use Rattle.desk_claim.specs.Ring.{listed}
 use Rattle.desk_claim.specs.ReturnQueue.{inQueue}
 use Rattle.desk_claim.specs.Related.{shown}
 
+-- Above each definition and each arm: the function of crate realseq that it is, and the definition that this function's contract gives.
+
+-- Sequencer::new (crate sequencer): contract `created`; SequencerBackend::new over its engine: contract `opened`
 abbrev pub deskNew : (channels : ℕ) → ReplayMode → (first : ℕ) → SequencerBackend × Calls.Answer
 deskNew channels mode first =
     let o = created channels mode first in
@@ -31,12 +34,19 @@ abbrev pub gives : Outcome → (out : List Float) → SequencerBackend × Reply
 gives o out = (o .backend, record { answer = answerOf (o .answer); out = out })
 
 abbrev pub deskCall : SequencerBackend → Call → SequencerBackend × Reply
+-- SequencerBackend::push (absolute), push_relative (relative), push_duration (byDuration): contract `pushes`
 deskCall d (front (push kind start end fade-in fade-out curve source gain)) = gives (pushes kind d start end curve fade-in fade-out source gain) []
+-- SequencerBackend::edit (absoluteEnd), edit_relative (relativeEnd): contract `edits`
 deskCall d (front (edit kind k end fade-out)) = gives (edits kind d (record { 0 = k }) end fade-out) []
+-- SequencerBackend::queue_reset: contract `resets`
 deskCall d (front reset) = gives (resets d) []
+-- SequencerBackend::tick: contract `ticks`, and of the lent output `tickOuts`
 deskCall d (back (tick order pool out)) = gives (ticks order pool (length out) d) (tickOuts order pool d out)
+-- SequencerBackend::process: contract `blocks`, and of the lent output `blockOuts`
 deskCall d (back (block order n pool out)) = gives (blocks order pool n (length out) d) (blockOuts order pool n d out)
+-- SequencerBackend::set_sample_rate: contract `rates`
 deskCall d (back (rate r)) = gives (rates d r) []
+-- SequencerBackend::reset, which gives the desk alone, since nothing refuses it: contract `reset` (realseq/specs/Handling)
 deskCall d (back reset) = gives (accepts (Handling.reset d)) []
 
 -- the arrays up to their counts

@@ -17,7 +17,7 @@ use Rattle.ledger.specs.Refusals.{firstOf, statedEnd}
 use Rattle.sequencer.specs.Parts.{withNext}
 use Rattle.desk.specs.Desk as Plain
 use Rattle.desk.specs.Desk.{push, edit, reset, front, Reply, number, Desk, pushesIn, nextNumber, frontChecks, deskRefusal, sends, carriedOut, step}
-use Rattle.ledger.specs.Calls.{isRelative}
+use Rattle.desk.specs.Relative.{isRelative}
 use Rattle.desk.specs.Lawful.{DeskLawful}
 use Rattle.desk.specs.LawfulCalls.{pushes-last, sends-lawful}
 use Rattle.realseq.specs.declared.SequencerBackend.{SequencerBackend}

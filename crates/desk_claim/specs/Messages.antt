@@ -32,7 +32,7 @@ use Rattle.claim.specs.Entering.{related-push-event}
 use Rattle.claim.specs.Changing.{related-change}
 use Rattle.desk.specs.Desk as Plain
 use Rattle.desk.specs.Desk.{push, edit, reset, pushesIn}
-use Rattle.ledger.specs.Calls.{isRelative, endRelative}
+use Rattle.desk.specs.Relative.{isRelative, endRelative}
 use Rattle.desk.specs.Lawful.{DeskLawful, deskOf, handled, handled-next, pushes-first}
 use Rattle.realseq.specs.declared.SequencerBackend.{SequencerBackend}
 use Rattle.realseq.specs.declared.queues.Message.{Message}

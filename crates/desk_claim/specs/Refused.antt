@@ -12,7 +12,7 @@ use Rattle.event.specs.declared.Edit.{Edit}
 use Rattle.event.specs.declared.EventId.{EventId}
 use Rattle.event.specs.Events.{newEvent}
 use Rattle.floats.specs.Arithmetic.{_-ᵈ_}
-use Rattle.ledger.specs.Calls.{isRelative, endRelative}
+use Rattle.desk.specs.Relative.{isRelative, endRelative}
 use Rattle.ledger.specs.Refusals.{statedEnd}
 use Rattle.refusals.specs.Refusals.{rateRefusal}
 use Rattle.sequencer.specs.Rendering.{renderedTick, renderedTickOut, renderedBlock, renderedPlaces, renderedBlockOut}

@@ -18,7 +18,7 @@ use Rattle.claim.specs.Related.{Related}
 use Rattle.desk.specs.Desk as Plain
 use Rattle.desk.specs.Desk.{push, edit, reset, Desk, pushesIn, editsIn, nextNumber}
 use Rattle.desk.specs.Claim.{Sent, event, change, restart, sentFrom}
-use Rattle.ledger.specs.Calls.{isRelative, endRelative}
+use Rattle.desk.specs.Relative.{isRelative, endRelative}
 use Rattle.desk.specs.Lawful.{deskOf, pushes-first, edits-first}
 use Rattle.realseq.specs.declared.SequencerBackend.{SequencerBackend}
 use Rattle.realseq.specs.declared.queues.Message.{Message}

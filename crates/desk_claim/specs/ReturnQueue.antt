@@ -10,7 +10,7 @@ use lib.Seq.{take-suc, take-suc-set, take-append-le, take-all, length-take-le}
 use borrow.Author.Tests.{lt-ltb, le-ltb}
 use Rattle.event.specs.declared.Event.{Event}
 use Rattle.event.specs.declared.EventId.{EventId}
-use Rattle.event.specs.Events.{blank}
+use Rattle.event.specs.Blank.{blank}
 use Rattle.ledger.specs.Lists.{numbers}
 use Rattle.ledger.specs.Sorted.{Sorted}
 use Rattle.ready.specs.declared.Ready.{Ready}

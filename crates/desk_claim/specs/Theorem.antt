@@ -10,7 +10,7 @@ use Rattle.sequencer.specs.declared.Sequencer.{Sequencer}
 use Rattle.sequencer.specs.Creation.{created}
 use Rattle.sequencer.specs.Parts.{withNext}
 use Rattle.claim.specs.Creating.{related-creation}
-use Rattle.claim.specs.View as Claim
+use Rattle.claim.specs.Shows as Claim
 use Rattle.claim.specs.View.{viewOf}
 use Rattle.desk.specs.Desk.{push, edit, reset, tick, block, rate, Call, front, back, Desk, Outcome, nextNumber, opened, deskRefusal, carriedOut, decide, step}
 use Rattle.desk.specs.Claim.{calls, deskAfter, DeskClaim, sentFrom}

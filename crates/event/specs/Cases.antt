@@ -13,11 +13,9 @@ use Rattle.event.specs.Events.{earlier, editedBy, rewound}
 use Rattle.event.specs.StartsFirst.{startBits}
 use Rattle.event.specs.Fades.{curve}
 use Rattle.event.specs.Numbers.{modeNumber, curveNumber, sourceNumber, firstWord, secondWord}
-use Rattle.event.specs.Runs.{made, steps}
-use Rattle.event.specs.Sources.{atStart, advanced, nextSamples, advancedBy}
+use Rattle.event.specs.Sources.{made, steps, atStart, advanced, nextSamples, advancedBy}
 use Rattle.floats.specs.Arithmetic.{zeroᶠ, oneᶠ, halfᶠ}
-use Rattle.floats.specs.Floats.{totalLess, negative}
-use Rattle.floats.specs.Sooner.{sooner}
+use Rattle.floats.specs.Floats.{totalLess, negative, sooner}
 
 abbrev 2ᶠ : Float
 2ᶠ = fin false 1 (pos 1)

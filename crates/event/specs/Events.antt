@@ -1,18 +1,14 @@
 -- Events: a new one, their order in the waiting heap, an edit applied, and a rewound source.
 use mathlib.Core.Bool.{Bool}
 use Prim.Native.Nat.{ℕ}
-use lib.Ieee.{Float, nan}
+use lib.Ieee.{Float}
 use Rattle.event.specs.declared.Event.{Event}
 use Rattle.event.specs.declared.Edit.{Edit}
 use Rattle.event.specs.declared.Unit.{Unit}
-use Rattle.event.specs.declared.StoredEdit.{StoredEdit}
-use Rattle.event.specs.declared.ReplayMode.{ReplayMode}
 use Rattle.event.specs.declared.Fade.{Fade}
 use Rattle.event.specs.declared.Source.{Source}
-use Rattle.event.specs.declared.Source.the-variants.{Held}
-use Rattle.event.specs.declared.Fade.the-variants.{Power}
 use Rattle.event.specs.Sources.{atStart}
-use Rattle.floats.specs.Sooner.{sooner}
+use Rattle.floats.specs.Floats.{sooner}
 
 abbrev pub numberOf : Event → ℕ
 numberOf e = e .id .0
@@ -63,16 +59,3 @@ withUnit u e = record {
 -- a reset rewinds the source
 abbrev pub rewound : Event → Event
 rewound e = withUnit (atStart (e .unit .source)) e
-
--- what the logic reads past the end of an array of events
-abbrev pub blank : Event
-blank = record {
-  «start_time» = nan;
-  «end_time» = nan;
-  «fade_in» = nan;
-  «fade_out» = nan;
-  «fade_ease» = Power;
-  unit = record { source = Held nan; value = nan; place = 0 };
-  gain = nan;
-  id = record { 0 = 0 };
-}

@@ -1,8 +1,11 @@
-pub mod Runs
 pub mod Fades
 pub mod Sources
+pub mod SourceStays
+pub mod Runs
 pub mod Events
+pub mod Blank
 pub mod StartsFirst
 pub mod Numbers
 pub mod Cases
 pub mod Placings
+pub mod PlacingCounts

@@ -1,16 +1,12 @@
--- What a state gives when it is moved on again and again. Assumes nothing.
+-- Laws of `made` and `steps`: what a state gives when it is moved on again and again.
 use Prim.Native.Nat.{ℕ, zero, suc, _+_, _<_}
 use mathlib.Core.Path.{_≡_, refl, ap, _∙_}
 use mathlib.Core.List.{List, [], _∷_}
 use native.Mathlib.Omega.{arith}
 use lib.ListN.{getD, length}
+use Rattle.event.specs.Sources.{made, steps}
 
 module _ {A S : Type 0} where
-  -- the first k values that a state gives, moved on by `next` after each
-  unfoldable pub made : (S → A) → (S → S) → S → ℕ → List A
-  made value next s zero = []
-  made value next s (suc k) = value s ∷ made value next (next s) k
-
   pub length-made : (value : S → A) (next : S → S) (s : S) (k : ℕ) → length (made value next s k) ≡ k
   unfolding made
   length-made value next s zero = refl
@@ -23,11 +19,6 @@ more : (j k : ℕ) → suc (j + k) ≡ suc j + k
 more j k = omega arith
 
 module _ {S : Type 0} where
-  -- the state after k moves
-  unfoldable pub steps : (S → S) → S → ℕ → S
-  steps next s zero = s
-  steps next s (suc k) = steps next (next s) k
-
   pub steps-add : (next : S → S) (s : S) (j k : ℕ) → steps next (steps next s j) k ≡ steps next s (j + k)
   unfolding steps
   steps-add next s zero k = ap (steps next s) (none k)

@@ -1,13 +1,11 @@
--- Document 01, "Sources and events": a source at a place, the sample that it gives next, and where it goes on from. One value feeds all channels. Assumes nothing.
+-- Document 01, "Sources and events": a source at a place, the sample that it gives next, and where it goes on from. One value feeds all channels.
 use Prim.Native.Nat.{ℕ, zero, suc, _+_}
-use mathlib.Core.Path.{_≡_, refl, ap, _∙_}
-use mathlib.Core.Bool.{Bool, true, false, cond}
-use mathlib.Core.List.{List}
+use mathlib.Core.Bool.{cond}
+use mathlib.Core.List.{List, [], _∷_}
 use lib.Dec.{ltb}
 use lib.Ieee.{Float}
 use lib.ListN.{getD}
 use Rattle.floats.specs.Arithmetic.{_+ˢ_, zeroᶠ}
-use Rattle.event.specs.Runs.{made, steps}
 use Rattle.event.specs.declared.Source.{Source}
 use Rattle.event.specs.declared.Source.the-variants.{Held, Ramp, Clip}
 use Rattle.event.specs.declared.Unit.{Unit}
@@ -39,24 +37,23 @@ advancedAt (Clip offset length) u = cond (ltb (u .place) length) (record { sourc
 abbrev pub advanced : Unit → Unit
 advanced u = advancedAt (u .source) u
 
+-- ---- what a state gives when it is moved on again and again
+
+module _ {A S : Type 0} where
+  -- the first k values that a state gives, moved on by `next` after each
+  unfoldable pub made : (S → A) → (S → S) → S → ℕ → List A
+  made value next s zero = []
+  made value next s (suc k) = value s ∷ made value next (next s) k
+
+module _ {S : Type 0} where
+  -- the state after k moves
+  unfoldable pub steps : (S → S) → S → ℕ → S
+  steps next s zero = s
+  steps next s (suc k) = steps next (next s) k
+
 -- ---- the next k samples, and the unit after them
 abbrev pub nextSamples : List Float → Unit → ℕ → List Float
 nextSamples pool u k = made (sampleOf pool) advanced u k
 
 abbrev pub advancedBy : Unit → ℕ → Unit
 advancedBy u k = steps advanced u k
-
--- ---- moving on changes the place alone, so a reset finds the beginning again
-same-source : (s : Source) (u : Unit) → advancedAt s u .source ≡ u .source
-same-source (Held level) u = refl
-same-source (Ramp first step) u = refl
-same-source (Clip offset length) u = go (ltb (u .place) length)
-  where
-    go : (b : Bool) → cond b (record { source = u .source; value = u .value; place = u .place + 1 }) u .source ≡ u .source
-    go true = refl
-    go false = refl
-
-pub source-stays : (u : Unit) (k : ℕ) → advancedBy u k .source ≡ u .source
-unfolding steps
-source-stays u zero = refl
-source-stays u (suc k) = source-stays (advanced u) k ∙ same-source (u .source) u

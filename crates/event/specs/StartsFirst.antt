@@ -7,9 +7,9 @@ use Prim.Native.Nat.{ℕ}
 use lib.Dec.{T, ltb}
 use lib.Ieee.{Float, binary64, fits, toBits, ofBits}
 use lib.Ieee.Bits.{ofBits-toBits}
-use Rattle.floats.specs.Floats.{totalLess, ordered}
+use Rattle.floats.specs.Floats.{totalLess, sooner}
+use Rattle.floats.specs.Ordered.{ordered}
 use Rattle.floats.specs.TotalOrder.{totalLess-irreflexive, totalLess-connected, ordered-equal}
-use Rattle.floats.specs.Sooner.{sooner}
 use Rattle.floats.specs.declared.Order.{Order}
 use Rattle.floats.specs.declared.Order.the-variants.{Less, Equal, Greater}
 use Rattle.event.specs.declared.Event.{Event}

@@ -9,7 +9,8 @@ use lib.Ieee.{Float, nan, inf, fin, binary64, up, down, below, level, lt, eq, ne
 use borrow.Author.Tests.{ltb-false, le-ltb, eqb-true, eq-eqb}
 use lib.Ieee.Bits.{is-false, ofBits-toBits, toBits-lt}
 use lib.Ieee.Compare.{differs-from-itself}
-use Rattle.floats.specs.Floats.{totalLess, ordered, negative}
+use Rattle.floats.specs.Floats.{totalLess, negative}
+use Rattle.floats.specs.Ordered.{ordered}
 use Rattle.floats.specs.TotalOrder.{totalLess-irreflexive, totalLess-asymmetric, totalLess-connected, ordered-less, ordered-greater, ordered-equal}
 use Rattle.floats.specs.declared.Order.the-variants.{Less, Equal, Greater}
 use Rattle.floats.proofs.Patterns.{same-no-nan}

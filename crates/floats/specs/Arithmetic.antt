@@ -1,10 +1,9 @@
 -- How document 01's arithmetic is written in the definitions of every crate. A time is an f64, a sample an f32, and each operation rounds once, to the nearest, ties to even (`lib.Ieee`).
 -- ᵈ marks an f64 operation (double precision), ˢ an f32 one (single precision). Comparisons are IEEE 754's: -0 equals +0, and a comparison with a NaN fails.
-use Prim.Native.Nat.{ℕ, _^_}
+use Prim.Native.Nat.{ℕ}
 use mathlib.Core.Bool.{Bool, true, false}
-use mathlib.Core.Path.{_≡_, refl}
 use lib.IntN.{pos, negsuc}
-use lib.Ieee.{Float, inf, fin, binary32, binary64, add, sub, mul, div, lt, le, eq, round, ofInt, ofBits}
+use lib.Ieee.{Float, inf, fin, binary32, binary64, add, sub, mul, div, lt, le, eq, round, ofBits}
 
 infixl 65 _+ᵈ_ _-ᵈ_ _+ˢ_ _-ˢ_
 infixl 70 _×ᵈ_ _÷ᵈ_ _×ˢ_ _÷ˢ_
@@ -44,22 +43,14 @@ _≈ᶠ_ x y = eq x y
 
 -- ---- constants
 
--- an f32 and an f64 by their bits
+-- an f32 by its bits
 abbrev pub f32 : ℕ → Float
 f32 b = ofBits binary32 b
-
-abbrev pub f64 : ℕ → Float
-f64 b = ofBits binary64 b
 
 -- the f64 nearest to the whole number n
 unfoldable pub whole : ℕ → Float
 unfolding round
 whole n = round binary64 false n 1
-
--- as the code's `n as f64` stands in a contract
-pub whole-is : (n : ℕ) → whole n ≡ ofInt binary64 (pos n)
-unfolding whole ofInt
-whole-is n = refl
 
 abbrev pub zeroᶠ : Float
 zeroᶠ = fin false 0 (pos 0)
@@ -69,9 +60,6 @@ oneᶠ = fin false 1 (pos 0)
 
 abbrev pub halfᶠ : Float
 halfᶠ = fin false 1 (negsuc 0)
-
-abbrev pub +∞ : Float
-+∞ = inf false
 
 abbrev pub -∞ : Float
 -∞ = inf true

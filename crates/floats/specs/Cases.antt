@@ -6,11 +6,12 @@ use Prim.Native.Nat.{_-_, _+_, _^_}
 use lib.IntN.{pos, negsuc}
 use lib.ListN.{replicate}
 use lib.Ieee.{Float, nan, inf, fin, binary32, round, ofBits, toBits, lt, eq, isNan}
-use Rattle.floats.specs.Arithmetic.{f64, zeroᶠ, oneᶠ, halfᶠ}
+use Rattle.floats.specs.Arithmetic.{zeroᶠ, oneᶠ, halfᶠ}
+use Rattle.floats.specs.Constants.{f64}
 use Rattle.floats.specs.declared.Order.the-variants.{Less, Equal, Greater}
 use Rattle.floats.specs.declared.Order.{Order}
-use Rattle.floats.specs.Floats.{narrowed, index, negative, totalLess, ordered}
-use Rattle.floats.specs.Sooner.{sooner}
+use Rattle.floats.specs.Floats.{narrowed, index, negative, totalLess, sooner}
+use Rattle.floats.specs.Ordered.{ordered}
 
 -- Index of 0.5 is 1, of 2.5 is 3, of -0.5 is 0.
 pub case-2 : map index (halfᶠ ∷ fin false 5 (negsuc 0) ∷ fin true 1 (negsuc 0) ∷ []) ≡ 1 ∷ 3 ∷ 0 ∷ []

@@ -1,4 +1,4 @@
--- Document 02, Paper 12: the index step says beside the index "whether it was rounded freely, raised to 0 (a NaN, or a nearest whole number below 0) or cut at the top (a nearest whole number above the largest index)".
+-- The index step of document 02's Paper 12: its contract, when it is free, and values at its edges.
 use Prim.Native.Nat.{ℕ, _+_, _-_, _*_, _/_, _^_, min}
 use mathlib.Core.Path.{_≡_, refl, sym, _∙_}
 use mathlib.Core.Bool.{Bool, true, false, cond}
@@ -9,21 +9,12 @@ use lib.Dec.{ltb, leb, eqb}
 use lib.IntN.{ℤ, pos}
 use lib.ListN.{replicate}
 use lib.Ieee.{Float, nan, inf, fin, up, down, neg, ofBits}
-use Rattle.floats.specs.Arithmetic.{f64, zeroᶠ, halfᶠ}
+use Rattle.floats.specs.Arithmetic.{zeroᶠ, halfᶠ}
+use Rattle.floats.specs.Constants.{f64}
 use Rattle.floats.specs.declared.Clamp.{Clamp}
 use Rattle.floats.specs.declared.Clamp.the-variants.{Free, Raised, Cut}
 use Rattle.floats.specs.declared.SampleIndex.{SampleIndex}
-use Rattle.floats.specs.Floats.{index}
-
--- the whole number nearest to m * 2 ^ e, halves up
-abbrev pub nearestWhole : ℕ → ℤ → ℕ
-nearestWhole m e = (2 * (m * up e) + down e) / (2 * down e)
-
--- "infinities go to their sides, and -0.3 is rounded freely": below 0 halves go away from zero, so -0.5 is raised
-unfoldable pub clampOf : Float → Clamp
-clampOf nan = Raised
-clampOf (inf s) = cond s Raised Cut
-clampOf (fin s m e) = cond s (cond (ltb 0 (nearestWhole m e)) Raised Free) (cond (ltb (2 ^ 64 - 1) (nearestWhole m e)) Cut Free)
+use Rattle.floats.specs.Floats.{index, nearestWhole, clampOf, isFree}
 
 -- the step: the index as before, and how it came
 unfoldable pub sampleIndex : Float → SampleIndex
@@ -33,11 +24,6 @@ abbrev pub freely : ℕ → SampleIndex
 freely n = record { index = n; how = Free }
 
 -- ---- laws
-
-abbrev pub isFree : Clamp → Bool
-isFree Free = true
-isFree Raised = false
-isFree Cut = false
 
 -- free exactly when the nearest whole number, which is -n or n, lies in 0 to 2 ^ 64 - 1
 abbrev pub inRange : (negative : Bool) → (n : ℕ) → Bool

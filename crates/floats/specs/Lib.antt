@@ -1,5 +1,8 @@
 pub mod Arithmetic
+pub mod Constants
+pub mod WholeIs
 pub mod Floats
+pub mod Ordered
 pub mod IndexStep
 pub mod Scaled
 pub mod Closest

@@ -1,4 +1,4 @@
--- The order of a heap of events: by start, then by the lower number. A strict order on all pairs, total where the numbers differ, and its "not after" a total preorder. Assumes nothing.
+-- The order by start, then by the lower number (`sooner`): a strict order on all pairs, total where the numbers differ, and its "not after" a total preorder.
 use mathlib.Core.Path.{_≡_, refl, sym, ap, _∙_, subst}
 use mathlib.Core.Logic.{_≢_, _⊎_, inl, inr}
 use mathlib.Core.Bool.{Bool, true, false, not, _&&_, _||_, cond, true≢false, false≢true}
@@ -9,13 +9,11 @@ use lib.Dec.{T, ltb, ltb→lt, lt→ltb, nltb→le}
 use lib.Arith.{le→nltb}
 use lib.Ieee.{Float}
 use lib.Ieee.Bits.{is-true, is-false}
-use Rattle.floats.specs.Floats.{totalLess, ordered}
+use Rattle.floats.specs.Floats.{totalLess, sooner}
+use Rattle.floats.specs.Ordered.{ordered}
 use Rattle.floats.specs.TotalOrder.{totalLess-irreflexive, totalLess-transitive, totalLess-asymmetric, not-totalLess-transitive}
 use Rattle.floats.specs.declared.Order.{Order}
 use Rattle.floats.specs.declared.Order.the-variants.{Less, Equal, Greater}
-
-unfoldable pub sooner : Float → ℕ → Float → ℕ → Bool
-sooner x i y j = totalLess x y || (not (totalLess y x) && ltb i j)
 
 -- the answer of `total_cmp`, and at Equal the numbers
 abbrev pub tied : Order → Bool → Bool

@@ -12,7 +12,8 @@ use lib.Pow.{pow-pos, pow-mono}
 use lib.Ieee.{Float, nan, inf, fin, Format, up, down, lt, eq, fits, isNan}
 use lib.Ieee.Fits.{down-pos}
 use lib.Ieee.Bits.{is-true, is-false}
-use Rattle.floats.specs.Floats.{totalLess, ordered, negative}
+use Rattle.floats.specs.Floats.{totalLess, negative}
+use Rattle.floats.specs.Ordered.{ordered}
 use Rattle.floats.specs.Values.{value-unique}
 use Rattle.floats.specs.Scaled.{scaled}
 use Rattle.floats.specs.declared.Order.{Order}

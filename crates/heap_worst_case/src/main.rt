@@ -1,5 +1,7 @@
 // Document 02, Paper 13: `heap_worst_case N` writes to standard output the tape of N pushes, N from 1 to 256, that moves most events inside the waiting heap (crate rises). To standard error it writes
 // two figures: what the rises of N pushes add up to at most, and what those of the tape's pushes do. Anything but such an N is refused: `23` is then all that is written, to standard error.
+use rises::Laid;
+use rises::Total;
 
 // N, or 0 where the words are not one that writes it.
 fn argument() -> usize {
@@ -23,25 +25,36 @@ fn write_front(buf: &[u8], n: usize) {
     io::write_all(1, &buf[..n]);
 }
 
-fn write_tape(n: usize) {
-    let mut buf = io::large_buffer();
-    let len = rises::lay(n, &mut buf);
-    write_front(&buf, len);
+fn write_total(total: Total) {
+    match total {
+        Total::Levels(levels) => {
+            io::print_decimal(2, levels as u64);
+        }
+        Total::Refused(refusal) => {
+            io::print_decimal(2, refusal);
+        }
+    }
 }
 
 fn write_figures(n: usize) {
-    io::print_decimal(2, rises::greatest_total(n) as u64);
+    write_total(rises::greatest_total(n));
     io::write_all(2, b" ");
-    io::print_decimal(2, rises::arranged_total(n) as u64);
+    write_total(rises::arranged_total(n));
     io::write_all(2, b"\n");
 }
 
 fn main() {
     let n = argument();
-    if n == 0 {
-        io::write_all(2, b"23\n");
-    } else {
-        write_tape(n);
-        write_figures(n);
+    let mut buf = io::large_buffer();
+    let laid = rises::lay(n, &mut buf);
+    match laid {
+        Laid::Bytes(len) => {
+            write_front(&buf, len);
+            write_figures(n)
+        }
+        Laid::Refused(refusal) => {
+            io::print_decimal(2, refusal);
+            io::write_all(2, b"\n");
+        }
     }
 }

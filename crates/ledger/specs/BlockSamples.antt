@@ -5,7 +5,7 @@ use mathlib.Core.List.{List, [], _∷_, _++_, map}
 use mathlib.Core.Option.{Option, none, some}
 use lib.Dec.{ltb}
 use lib.ListN.{length, take, drop}
-use lib.Ieee.{Float, ofBits, round, add, sub, mul, div, lt, le}
+use lib.Ieee.{Float}
 use Rattle.floats.specs.Arithmetic.{_+ᵈ_, _-ᵈ_, _×ᵈ_, _÷ᵈ_, _+ˢ_, _-ˢ_, _×ˢ_, _<ᶠ_, _≤ᶠ_, zeroᶠ, oneᶠ, whole}
 use Rattle.floats.specs.Floats.{narrowed, index}
 use Rattle.math.specs.Curves.{delerped}
@@ -13,7 +13,6 @@ use Rattle.event.specs.declared.Event.{Event}
 use Rattle.event.specs.declared.Fade.{Fade}
 use Rattle.event.specs.Events.{withUnit}
 use Rattle.event.specs.Fades.{curve}
-use Rattle.event.specs.Runs.{made, steps}
 use Rattle.event.specs.Sources.{nextSamples, advancedBy}
 
 -- A block of n samples from clock t up to e, at rate r and sample duration d
@@ -140,8 +139,3 @@ overlay (suc c) run l = run ++ (drop (length run) (take 64 l) ++ overlay c run (
 abbrev pub overlayScratch : (run : List Float) → Option (List Float) → Option (List Float)
 overlayScratch run none = none
 overlayScratch run (some l) = some (run ++ drop (length run) l)
-
--- What a case that computes must unfold.
-unfoldable pub computes : Unit {0}
-unfolding add sub mul div lt le round ofBits whole delerped narrowed index curve made steps fadedAll faded fadeInPlace fadeOutPlace phaseAt phaseStep runFadedIn runFadedOut firstPlace endPlace addAt channelAfter scratchAfter afterBlock blockSum overlay
-computes = tt

@@ -1,6 +1,5 @@
 -- The calls of the plain ledger with all that is lent to them, and what they give back.
 use Prim.Native.Nat.{ℕ}
-use mathlib.Core.Bool.{Bool, true, false}
 use mathlib.Core.List.{List}
 use mathlib.Core.Option.{Option}
 use lib.Ieee.{Float}
@@ -13,19 +12,9 @@ use Rattle.event.specs.declared.Source.{Source}
 pub data PushKind : Type 0 where
   absolute relative byDuration : PushKind
 
--- whether both count from the clock
-abbrev pub isRelative : PushKind → Bool
-isRelative absolute = false
-isRelative relative = true
-isRelative byDuration = false
-
 -- an edit states its end, or its end relative to the clock
 pub data EditKind : Type 0 where
   absoluteEnd relativeEnd : EditKind
-
-abbrev pub endRelative : EditKind → Bool
-endRelative absoluteEnd = false
-endRelative relativeEnd = true
 
 -- Document 02, Paper 9: a tick or block has the mark where its order is `Backward`.
 pub data Call : Type 0 where
@@ -43,7 +32,8 @@ pub data Answer : Type 0 where
   rendered : Placings → Answer
   refused : ℕ → Answer
 
--- What a call gives back: its answer, and what was lent to be written. Of a lent scratch the first `filled` places count: the samples given (of a refused call all 64).
+-- What a call gives back: its answer, and what was lent to be written.
+-- Of a lent scratch the first `filled` places count: the samples given; of a refused call every place lent.
 pub record Reply : Type 0 where
   pub answer : Answer
   pub out : List Float

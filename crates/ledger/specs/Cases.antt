@@ -13,7 +13,8 @@ use Rattle.event.specs.declared.ReplayMode.the-variants.{All}
 use Rattle.event.specs.declared.Source.the-variants.{Held}
 use Rattle.ledger.specs.Calls.{Call, push, tick, block, rate, absolute, Answer, rendered, Reply}
 use Rattle.ledger.specs.Ledger.{Ledger, fresh}
-use Rattle.ledger.specs.Steps.{run, computes}
+use Rattle.ledger.specs.Steps.{run}
+use Rattle.ledger.specs.Computes.{computes}
 
 -- a decimal number with k digits behind the point, as an f64
 unfoldable pub decimal : (n k : ℕ) → Float

@@ -6,13 +6,15 @@ use mathlib.Core.List.{List, [], _∷_, _++_}
 use lib.IntN.{pos, negsuc}
 use lib.ListN.{take, drop, replicate}
 use lib.Ieee.{Float, fin, neg, toBits}
-use Rattle.floats.specs.Arithmetic.{zeroᶠ, oneᶠ, halfᶠ, +∞, -∞, whole}
+use Rattle.floats.specs.Arithmetic.{zeroᶠ, oneᶠ, halfᶠ, -∞, whole}
+use Rattle.floats.specs.Constants.{+∞}
 use Rattle.event.specs.declared.Fade.the-variants.{Power, Smooth}
 use Rattle.event.specs.declared.ReplayMode.the-variants.{All}
 use Rattle.event.specs.declared.Source.the-variants.{Held, Ramp}
 use Rattle.ledger.specs.Calls.{Call, push, edit, rate, absolute, absoluteEnd}
 use Rattle.ledger.specs.Ledger.{fresh}
-use Rattle.ledger.specs.Steps.{run, withLists, computes}
+use Rattle.ledger.specs.Steps.{run, withLists}
+use Rattle.ledger.specs.Computes.{computes}
 use Rattle.ledger.specs.Cases.{held1, decimal, one-tick, blockOf, outsOf, lastOut, bits, repliesAt}
 
 -- the samples of n ticks after a push, and those of a block of n, at rate r

@@ -7,7 +7,8 @@ use mathlib.Core.Option.{none}
 use lib.IntN.{pos, negsuc}
 use lib.ListN.{take, drop, replicate}
 use lib.Ieee.{Float, nan, fin, neg, toBits}
-use Rattle.floats.specs.Arithmetic.{zeroᶠ, oneᶠ, halfᶠ, +∞, -∞, whole}
+use Rattle.floats.specs.Arithmetic.{zeroᶠ, oneᶠ, halfᶠ, -∞, whole}
+use Rattle.floats.specs.Constants.{+∞}
 use Rattle.event.specs.declared.Event.{Event}
 use Rattle.event.specs.declared.Fade.the-variants.{Smooth}
 use Rattle.event.specs.declared.MixOrder.the-variants.{Forward}
@@ -16,7 +17,8 @@ use Rattle.event.specs.declared.Source.{Source}
 use Rattle.event.specs.declared.Source.the-variants.{Held, Ramp, Clip}
 use Rattle.ledger.specs.Calls.{Call, PushKind, push, edit, tick, block, rate, reset, absolute, relative, byDuration, absoluteEnd, number, refused}
 use Rattle.ledger.specs.Ledger.{Ledger, fresh}
-use Rattle.ledger.specs.Steps.{run, computes}
+use Rattle.ledger.specs.Steps.{run}
+use Rattle.ledger.specs.Computes.{computes}
 use Rattle.ledger.specs.Cases.{one-tick, blockOf, answersOf, lastOut, outsOf, bits}
 use Rattle.ledger.specs.CasesOfFades.{ticksAt, blockAt}
 use Rattle.ledger.specs.CasesOfLimits.{pushes}

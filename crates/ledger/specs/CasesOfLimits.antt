@@ -3,9 +3,11 @@ use Prim.Native.Nat.{ℕ, zero, suc}
 use mathlib.Core.Path.{_≡_, refl}
 use mathlib.Core.List.{List, [], _∷_, _++_}
 use lib.ListN.{drop}
-use Rattle.floats.specs.Arithmetic.{zeroᶠ, oneᶠ, +∞, whole}
+use Rattle.floats.specs.Arithmetic.{zeroᶠ, oneᶠ, whole}
+use Rattle.floats.specs.Constants.{+∞}
 use Rattle.ledger.specs.Calls.{Call, edit, absoluteEnd, Answer, number, stored, refused}
-use Rattle.ledger.specs.Steps.{run, computes}
+use Rattle.ledger.specs.Steps.{run}
+use Rattle.ledger.specs.Computes.{computes}
 use Rattle.ledger.specs.Cases.{atRate8, held1, answersOf}
 
 -- n pushes that start at n - 1, .., 1, 0, and n edits of the numbers n, .., 2, 1

@@ -6,7 +6,8 @@ use mathlib.Core.List.{List, [], _∷_, _++_}
 use mathlib.Core.Option.{none, some}
 use lib.IntN.{pos, negsuc}
 use lib.Ieee.{Float, fin}
-use Rattle.floats.specs.Arithmetic.{zeroᶠ, oneᶠ, halfᶠ, +∞, -∞, whole}
+use Rattle.floats.specs.Arithmetic.{zeroᶠ, oneᶠ, halfᶠ, -∞, whole}
+use Rattle.floats.specs.Constants.{+∞}
 use Rattle.event.specs.declared.Event.{Event}
 use Rattle.event.specs.declared.StoredEdit.{StoredEdit}
 use Rattle.event.specs.declared.Fade.the-variants.{Power, Smooth}
@@ -15,7 +16,8 @@ use Rattle.event.specs.declared.Source.the-variants.{Held, Ramp}
 use Rattle.ledger.specs.Calls.{Call, push, edit, rate, reset, absolute, relative, byDuration, absoluteEnd, relativeEnd, past, stored, done}
 use Rattle.ledger.specs.Lists.{numbers, placeOf}
 use Rattle.ledger.specs.Ledger.{Ledger, fresh}
-use Rattle.ledger.specs.Steps.{run, computes}
+use Rattle.ledger.specs.Steps.{run}
+use Rattle.ledger.specs.Computes.{computes}
 use Rattle.ledger.specs.Cases.{held1, one-tick, blockOf, answersOf}
 use Rattle.ledger.specs.CasesOfSlips.{endsOf, valuesOf, ledgerOf, repliesOf}
 

@@ -15,7 +15,8 @@ use Rattle.event.specs.declared.Source.the-variants.{Held, Ramp, Clip}
 use Rattle.ledger.specs.Calls.{Call, push, tick, block, rate, absolute, refused}
 use Rattle.ledger.specs.Ledger.{Ledger, fresh}
 use Rattle.ledger.specs.Lists.{numbers}
-use Rattle.ledger.specs.Steps.{run, computes}
+use Rattle.ledger.specs.Steps.{run}
+use Rattle.ledger.specs.Computes.{computes}
 use Rattle.ledger.specs.Cases.{one-tick, blockOf, answersOf, lastOut, places}
 use Rattle.ledger.specs.CasesOfSamples.{lastReply}
 use Rattle.ledger.specs.CasesOfSlips.{valuesOf, ledgerOf, repliesOf}

@@ -5,7 +5,8 @@ use mathlib.Core.Bool.{true, false}
 use mathlib.Core.List.{List, [], _∷_}
 use lib.IntN.{pos, negsuc}
 use lib.Ieee.{Float, nan, fin, inf}
-use Rattle.floats.specs.Arithmetic.{zeroᶠ, oneᶠ, halfᶠ, +∞, whole}
+use Rattle.floats.specs.Arithmetic.{zeroᶠ, oneᶠ, halfᶠ, whole}
+use Rattle.floats.specs.Constants.{+∞}
 use Rattle.event.specs.declared.Event.{Event}
 use Rattle.event.specs.declared.Fade.the-variants.{Smooth}
 use Rattle.event.specs.declared.Placing.{Placing}
@@ -13,7 +14,7 @@ use Rattle.event.specs.declared.Placing.the-variants.{Kept, Forced}
 use Rattle.event.specs.declared.Source.the-variants.{Held}
 use Rattle.event.specs.Events.{newEvent}
 use Rattle.ledger.specs.Calls.{Call, edit, absoluteEnd, Answer, done, Reply}
-use Rattle.ledger.specs.Places as Places
+use Rattle.ledger.specs.Computes.{computes-places}
 use Rattle.ledger.specs.Places.{rounded, firstPlacing, endPlacing}
 use Rattle.ledger.specs.BlockSamples.{Span}
 use Rattle.ledger.specs.Cases.{held1, decimal, blockOf, one-tick, places, repliesAt}
@@ -72,7 +73,7 @@ nothing-heard = (refl, refl)
 pub forced-places :
     (rounded 16 (whole 16) ≡ Kept) × (rounded 16 (whole 17) ≡ Forced) × (rounded 64 (whole 65) ≡ Forced) × (rounded 64 (fin true 5_404_319_552_844_595 (negsuc 53)) ≡ Kept)
     × (rounded 64 (fin true 1 (negsuc 0)) ≡ Forced) × (rounded 64 nan ≡ Forced) × (rounded 64 (inf true) ≡ Forced) × (rounded 64 (fin false 1 (pos 64)) ≡ Forced)
-unfolding Places.computes whole
+unfolding computes-places whole
 forced-places = (refl, refl, refl, refl, refl, refl, refl, refl)
 
 -- s and z are by × r: 0.25 - 2 ^ -55 at rate 6 is place 1, and in a block of 1 not cut; by ÷ d it would be 2. No accepted call reaches it.
@@ -83,5 +84,5 @@ abbrev clip : (start end : Float) → Event
 clip start end = newEvent start end zeroᶠ zeroᶠ Smooth (Held oneᶠ) oneᶠ 1
 
 pub placed-by-rate : let x = fin false 9_007_199_254_740_991 (negsuc 54) in (firstPlacing span (clip x oneᶠ) ≡ Kept) × (endPlacing span (clip zeroᶠ x) ≡ Kept)
-unfolding Places.computes
+unfolding computes-places
 placed-by-rate = (refl, refl)

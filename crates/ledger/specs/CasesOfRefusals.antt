@@ -7,7 +7,8 @@ use mathlib.Core.Option.{Option, none, some}
 use lib.IntN.{pos, negsuc}
 use lib.ListN.{length, drop, replicate}
 use lib.Ieee.{Float, nan, fin, neg}
-use Rattle.floats.specs.Arithmetic.{zeroᶠ, oneᶠ, halfᶠ, +∞, -∞, whole}
+use Rattle.floats.specs.Arithmetic.{zeroᶠ, oneᶠ, halfᶠ, -∞, whole}
+use Rattle.floats.specs.Constants.{+∞}
 use Rattle.event.specs.declared.Fade.the-variants.{Smooth}
 use Rattle.event.specs.declared.MixOrder.the-variants.{Forward}
 use Rattle.event.specs.declared.ReplayMode.the-variants.{All, None}
@@ -15,7 +16,8 @@ use Rattle.event.specs.declared.Source.{Source}
 use Rattle.event.specs.declared.Source.the-variants.{Held, Ramp, Clip}
 use Rattle.ledger.specs.Calls.{Call, PushKind, push, edit, tick, block, rate, absolute, relative, byDuration, absoluteEnd, relativeEnd, applied, past, stored, number, done, refused, Answer, Reply}
 use Rattle.ledger.specs.Ledger.{Ledger, fresh, create}
-use Rattle.ledger.specs.Steps.{run, withLists, computes}
+use Rattle.ledger.specs.Steps.{run, withLists}
+use Rattle.ledger.specs.Computes.{computes}
 use Rattle.ledger.specs.Cases.{held1, one-tick, blockOf, answersOf, places}
 use Rattle.ledger.specs.CasesOfLimits.{pushes, edits}
 use Rattle.ledger.specs.CasesOfSlips.{ledgerOf, repliesOf}
@@ -177,6 +179,16 @@ refused-changes-nothing = (refl, refl, refl, refl, refl, refl)
 
 -- the output and scratch of a refused tick and block
 pub refused-writes-nothing : stereo (tickInto 1 ∷ blockInto 65 128 (some (replicate 64 oneᶠ)) ∷ [])
-    ≡ record { answer = refused 10; out = halfᶠ ∷ []; scratch = none; filled = 64 } ∷ record { answer = refused 11; out = replicate 128 halfᶠ; scratch = some (replicate 64 oneᶠ); filled = 64 } ∷ []
+    ≡ record { answer = refused 10; out = halfᶠ ∷ []; scratch = none; filled = 0 }
+    ∷ record { answer = refused 11; out = replicate 128 halfᶠ; scratch = some (replicate 64 oneᶠ); filled = 64 } ∷ []
 unfolding stereo
 refused-writes-nothing = refl
+
+-- a scratch of 64 × channels: "a refused call leaves it and all that is lent unchanged", and each of the 128 places counts
+abbrev long-scratch : List Float
+long-scratch = replicate 64 oneᶠ ++ replicate 64 halfᶠ
+
+pub refused-scratch : stereo (blockInto 1 128 (some long-scratch) ∷ [])
+    ≡ record { answer = refused 10; out = replicate 128 halfᶠ; scratch = some long-scratch; filled = 128 } ∷ []
+unfolding stereo
+refused-scratch = refl

@@ -16,7 +16,8 @@ use Rattle.event.specs.declared.Source.{Source}
 use Rattle.event.specs.declared.Source.the-variants.{Held, Ramp, Clip}
 use Rattle.ledger.specs.Calls.{Call, push, tick, block, rate, absolute, Reply}
 use Rattle.ledger.specs.Ledger.{Ledger, fresh}
-use Rattle.ledger.specs.Steps.{run, computes}
+use Rattle.ledger.specs.Steps.{run}
+use Rattle.ledger.specs.Computes.{computes}
 use Rattle.ledger.specs.Cases.{decimal, one-tick, blockOf, lastOut, places}
 use Rattle.ledger.specs.CasesOfSlips.{valuesOf, ledgerOf, repliesOf, atRate10}
 

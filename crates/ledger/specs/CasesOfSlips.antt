@@ -5,14 +5,16 @@ use mathlib.Core.List.{List, [], _∷_, _++_}
 use lib.IntN.{negsuc}
 use lib.ListN.{length, take, drop, replicate}
 use lib.Ieee.{Float, fin}
-use Rattle.floats.specs.Arithmetic.{zeroᶠ, oneᶠ, halfᶠ, +∞, whole}
+use Rattle.floats.specs.Arithmetic.{zeroᶠ, oneᶠ, halfᶠ, whole}
+use Rattle.floats.specs.Constants.{+∞}
 use Rattle.event.specs.declared.Event.{Event}
 use Rattle.event.specs.declared.Fade.the-variants.{Smooth}
 use Rattle.event.specs.declared.Source.the-variants.{Ramp}
 use Rattle.ledger.specs.Calls.{Call, push, edit, rate, reset, absolute, absoluteEnd, relativeEnd, applied, past, stored, number, done, Reply}
 use Rattle.ledger.specs.Lists.{numbers}
 use Rattle.ledger.specs.Ledger.{Ledger}
-use Rattle.ledger.specs.Steps.{run, computes}
+use Rattle.ledger.specs.Steps.{run}
+use Rattle.ledger.specs.Computes.{computes}
 use Rattle.ledger.specs.Cases.{atRate8, held1, decimal, 512ths, one-tick, blockOf, answersOf, lastOut, repliesAt}
 
 abbrev pub endsOf : List Event → List Float

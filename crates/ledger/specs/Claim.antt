@@ -1,20 +1,20 @@
 -- Demand 3's claim about an engine, given by its creation, its calls and its view: one claim about every list of calls, with any arguments, refused ones included, and whatever is lent. It has no proof here: `specs.ClaimByRelation` has the way to one.
 use Prim.Native.Nat.{ℕ, _+_, _*_, _^_, _%_, _<_}
 use mathlib.Core.Path.{_≡_}
-use mathlib.Core.Bool.{Bool, true, false, cond}
+use mathlib.Core.Bool.{Bool, true, false, _||_, cond}
 use mathlib.Core.List.{List, [], _∷_, _++_, List·Memᴰ, Perm}
 use mathlib.Core.Option.{Option, none, some}
+use lib.Dec.{eqb}
 use lib.ListN.{length, getD}
 use lib.Ieee.{Float}
 use Rattle.floats.specs.Arithmetic.{_<ᶠ_, zeroᶠ}
 use Rattle.event.specs.declared.Event.{Event}
 use Rattle.event.specs.declared.StoredEdit.{StoredEdit}
 use Rattle.event.specs.declared.ReplayMode.{ReplayMode}
-use Rattle.ledger.specs.Calls.{Call, push, edit, tick, block, rate, reset, Answer, Reply}
+use Rattle.ledger.specs.Calls.{Call, push, edit, tick, block, rate, reset, Answer, number, applied, past, stored, done, rendered, refused, Reply}
 use Rattle.ledger.specs.Lists.{numbers, placeOf}
 use Rattle.ledger.specs.Ledger.{Ledger, create}
 use Rattle.ledger.specs.Steps.{run}
-use Rattle.ledger.specs.Numbers.{accepted, among, times}
 
 -- ---- an engine
 
@@ -99,7 +99,7 @@ pub record SameState (v : View) (l : Ledger) : Type 0 where
   pub channels : v .channels ≡ l .channels
   pub mode : v .mode ≡ l .mode
 
--- a lent scratch, up to the k samples given
+-- a lent scratch: its length and its first k places
 abbrev pub SameScratch : (k : ℕ) → (a b : Option (List Float)) → Type 0
 SameScratch k none none = Unit {0}
 SameScratch k none (some b) = ⊥
@@ -107,6 +107,7 @@ SameScratch k (some a) none = ⊥
 SameScratch k (some a) (some b) = (length a ≡ length b) × ((j : ℕ) → j < k → getD a j zeroᶠ ≡ getD b j zeroᶠ)
 
 -- the answer or refusal, the whole output lent back, and a lent scratch up to the samples given, NaN bits aside: the logic has one NaN
+-- "a refused call leaves it and all that is lent unchanged": of such a call `filled` is the scratch's length
 pub record SameReply (a b : Reply) : Type 0 where
   pub answer : a .answer ≡ b .answer
   pub out : a .out ≡ b .out
@@ -121,6 +122,32 @@ SameReplies (a ∷ l) (b ∷ m) = SameReply a b × SameReplies l m
 -- the index gives a number's place in the sounding list, or none
 abbrev pub IndexGivesPlaces : View → Type 0
 IndexGivesPlaces v = (k : ℕ) → v .index k ≡ placeOf k (v .sounding)
+
+-- ---- the numbers that pushes are answered with, and how a number stands in a list of them
+
+-- A push is accepted when its answer is an event number.
+abbrev pub acceptedOf : Answer → List ℕ
+acceptedOf (number k) = k ∷ []
+acceptedOf applied = []
+acceptedOf past = []
+acceptedOf stored = []
+acceptedOf done = []
+acceptedOf (rendered c) = []
+acceptedOf (refused k) = []
+
+-- the numbers of a list of replies, in order
+abbrev pub accepted : List Reply → List ℕ
+accepted [] = []
+accepted (r ∷ l) = acceptedOf (r .answer) ++ accepted l
+
+-- how often a number stands in a list, and whether it does
+abbrev pub times : ℕ → List ℕ → ℕ
+times k [] = 0
+times k (n ∷ l) = cond (eqb n k) 1 0 + times k l
+
+abbrev pub among : ℕ → List ℕ → Bool
+among k [] = false
+among k (n ∷ l) = eqb n k || among k l
 
 -- ---- the claim, sentence by sentence
 

@@ -16,10 +16,9 @@ use Rattle.ledger.specs.Ledger.{Ledger, held, create}
 use Rattle.ledger.specs.Steps.{step, run}
 use Rattle.ledger.specs.Sums.{eventSum, numberSum-append, numberSum-numbers, eventSum-one, eventSum-perm}
 use Rattle.ledger.specs.Conservation.{byNumber}
-use Rattle.ledger.specs.Numbers.{acceptedOf, accepted, among, times}
+use Rattle.ledger.specs.Claim.{acceptedOf, accepted, among, times, Counts, countsOf, View, Engine, calls, engineAfter, SameState, SameReply, SameReplies, IndexGivesPlaces, Lends, AllLend, Claim}
 use Rattle.ledger.specs.Partition.{Partition, partition, is, times-is}
 use Rattle.ledger.specs.Lawful.{Lawful, create-lawful, step-lawful}
-use Rattle.ledger.specs.Claim.{Counts, countsOf, View, Engine, calls, engineAfter, SameState, SameReply, SameReplies, IndexGivesPlaces, Lends, AllLend, Claim}
 
 -- ---- what equal replies and equal states say
 

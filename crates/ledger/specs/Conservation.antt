@@ -19,7 +19,7 @@ use Rattle.ledger.specs.Calls.{Call, push, edit, tick, block, rate, rese
 use Rattle.ledger.specs.Steps.{Outcome, refusedReply, cleared, enter, change, advance, stays, leaves, everything, setRate, restart, accept, decide, step, pushedTime, spanOf}
 use Rattle.ledger.specs.Lists.{numbers, insertAll, start, sweep, has}
 use Rattle.ledger.specs.Refusals.{refusal, tickEnd, blockEnd, statedEnd, editEnd}
-use Rattle.ledger.specs.Numbers.{acceptedOf}
+use Rattle.ledger.specs.Claim.{acceptedOf}
 use Rattle.ledger.specs.Sums.{numberSum, numberSum-append, weight, eventSum, eventSum-append, eventSum-insert, eventSum-insertAll, eventSum-rewound, eventSum-edit, eventSum-start, eventSum-sweep, eventSum-tick, eventSum-block, numberSum-numbers}
 
 -- the weight of W, S and F, by start and number

@@ -13,8 +13,8 @@ use Rattle.floats.specs.Arithmetic.{_+ᵈ_, _-ᵈ_, _+ˢ_, _-ˢ_, _×ˢ_, _<ᶠ
 use Rattle.event.specs.declared.Event.{Event}
 use Rattle.event.specs.declared.Fade.{Fade}
 use Rattle.event.specs.Fades.{curve}
-use Rattle.event.specs.Runs.{steps, length-made, getD-in}
-use Rattle.event.specs.Sources.{nextSamples, sampleOf, advanced}
+use Rattle.event.specs.Runs.{length-made, getD-in}
+use Rattle.event.specs.Sources.{steps, nextSamples, sampleOf, advanced}
 use Rattle.ledger.specs.BlockSamples.{Span, fadedAll, faded, fadeInPlace, fadeOutPlace, phaseAt, phaseStep, gained, runFadedIn, runFadedOut, fadedRun}
 
 -- ---- what the fades make of a sample x at block place p, of a clip that begins at block place s and ends before z

@@ -8,7 +8,8 @@ use native.Mathlib.Omega.{arith}
 use borrow.Author.Tests.{ltb-true}
 use lib.Dec.{ltb}
 use lib.Ieee.{Float}
-use lib.ListN.{length, take, drop, length-replicate}
+use lib.ListN.{length, take, drop, length-replicate, length-drop, length-append}
+use lib.Seq.{length-take-le, take-append-seam, take-at, drop-at, drop-drop}
 use Rattle.floats.specs.Arithmetic.{_+ˢ_, zeroᶠ}
 use Rattle.event.specs.declared.Event.{Event}
 use Rattle.event.specs.declared.MixOrder.{MixOrder}
@@ -63,6 +64,10 @@ formerBlock l order n pool out scratch =
       scratch = everyChannel (filled pool b s) (l .channels) scratch;
     }
 
+-- channel c of a list of channels, 64 samples each
+abbrev pub channelOf : (c : ℕ) → List Float → List Float
+channelOf c l = take 64 (drop (64 * c) l)
+
 -- the first k of a lent scratch
 abbrev pub takeLent : (k : ℕ) → Option (List Float) → Option (List Float)
 takeLent k none = none
@@ -85,10 +90,6 @@ length-added s run [] = refl
 length-added (suc s) run (x ∷ l) = ap suc (length-added s run l)
 length-added zero [] (x ∷ l) = refl
 length-added zero (y ∷ run) (x ∷ l) = ap suc (length-added zero run l)
-
-take-front : (xs ys : List Float) → take (length xs) (xs ++ ys) ≡ xs
-take-front [] ys = refl
-take-front (x ∷ xs) ys = ap (λ (l : List Float). x ∷ l) (take-front xs ys)
 
 module _ (pool : List Float) (b : Span) where
   channel-before : (e : Event) (xs ys : List Float) → b .size ≤ length xs → channelAfter pool b e (xs ++ ys) ≡ channelAfter pool b e xs ++ ys
@@ -159,10 +160,42 @@ module _ (pool : List Float) (b : Span) where
       Alike y g = let r = blockSum pool b l (channelAfter pool b e channel) g .scratch in take (length r) (filled pool b l y) ≡ r
 
       go : (t : Bool) → ((y g : List Float) → take (length g) y ≡ g → Alike y g) → Alike (cond t (written given x) x) (cond t given run)
-      go true all = all (written given x) given (take-front given (drop (length given) x))
+      go true all = all (written given x) given (take-append-seam given (drop (length given) x))
       go false all = all x run h
 
--- ---- the theorem: ledger and samples, whatever is lent; and of a scratch of every channel, whatever stood in it, what the one scratch has up to the samples given
+-- ---- each channel by itself
+
+-- what is done to 64 samples of each channel, and keeps their number, is found in each
+every-channel-at : (f : List Float → List Float) → ((x : List Float) → length x ≡ 64 → length (f x) ≡ 64)
+    → (i c : ℕ) (l : List Float) → i < c → length l ≡ 64 * c → channelOf i (everyChannel f c l) ≡ f (channelOf i l)
+unfolding everyChannel
+every-channel-at f keeps i zero l h n = absurd (omega arith)
+every-channel-at f keeps zero (suc c) l h n =
+    take-at (f (take 64 l)) (everyChannel f c (drop 64 l)) 64 (keeps (take 64 l) (length-take-le 64 l (omega arith)))
+every-channel-at f keeps (suc i) (suc c) l h n =
+    let next : 64 * suc i ≡ 64 + 64 * i = omega arith in
+    let rest : List Float = everyChannel f c (drop 64 l) in
+    let front : drop 64 (f (take 64 l) ++ rest) ≡ rest = drop-at (f (take 64 l)) rest 64 (keeps (take 64 l) (length-take-le 64 l (omega arith))) in
+    rw (next, sym (drop-drop (64 * i) 64 (f (take 64 l) ++ rest)), sym (drop-drop (64 * i) 64 l), front)
+    (every-channel-at f keeps i c (drop 64 l) (omega arith) (omega (arith, length-drop 64 l)))
+
+length-filled : (pool : List Float) (b : Span) (l : List Event) (x : List Float) → b .size ≤ length x → length (filled pool b l x) ≡ length x
+length-filled pool b [] x h = refl
+length-filled pool b (e ∷ l) x h = go (ltb (firstPlace b e) (endPlace b e)) (length-filled pool b l)
+  where
+    run : List Float
+    run = fadedRun pool b (firstPlace b e) (endPlace b e) e
+
+    go : (t : Bool) → ((y : List Float) → b .size ≤ length y → length (filled pool b l y) ≡ length y)
+        → length (filled pool b l (cond t (written run x) x)) ≡ length x
+    go true all =
+        let given = length-faded-run pool b (firstPlace b e) (endPlace b e) e in
+        let same : length (written run x) ≡ length x
+        = omega (arith, length-append run (drop (length run) x), length-drop (length run) x, end-within b e, given) in
+        all (written run x) (omega arith) ∙ same
+    go false all = all x h
+
+-- ---- the theorem: ledger and samples, whatever is lent
 pub same-as-former : (l : Ledger) (order : MixOrder) (n : ℕ) (pool out scratch : List Float)
     → let f = formerBlock l order n pool out scratch in
     let o = accept l (block order n pool out none) in
@@ -174,12 +207,18 @@ same-as-former l order n pool out scratch =
       channels-alike pool (spanOf l n) n (inOrder order (m .sounding)) [] (l .channels) out (omega (arith, length-replicate (8 * ((n + 7) / 8)) zeroᶠ)),
     )
 
-pub same-scratch : (l : Ledger) (order : MixOrder) (n : ℕ) (pool out x y : List Float)
-    → let m = advance l (blockEnd l n) in
-    let o = accept l (block order n pool out (some y)) in
-    some (take (o .reply .filled) (filled pool (spanOf l n) (inOrder order (m .sounding)) x)) ≡ takeLent (o .reply .filled) (o .reply .scratch)
-unfolding accept
-same-scratch l order n pool out x y =
+-- "All channels of an event share the source's samples before fading, so one faded run serves them all": each channel of the former scratch, which 10 asked to
+-- be 64 × channels long, has up to the samples given what the one scratch has, whatever stood in either.
+pub same-scratch : (l : Ledger) (order : MixOrder) (n : ℕ) (pool out scratch lent : List Float) (c : ℕ)
+    → n ≤ 64 → length scratch ≡ 64 * l .channels → c < l .channels
+    → let f = formerBlock l order n pool out scratch in
+    let r = accept l (block order n pool out (some lent)) .reply in
+    some (take (r .filled) (channelOf c (f .scratch))) ≡ takeLent (r .filled) (r .scratch)
+unfolding formerBlock accept
+same-scratch l order n pool out scratch lent c h e i =
+    let b = spanOf l n in
     let s = inOrder order (advance l (blockEnd l n) .sounding) in
-    let r = blockSum pool (spanOf l n) s (cleared n) [] .scratch in
-    ap some (scratches-alike pool (spanOf l n) s (cleared n) x [] refl ∙ sym (take-front r (drop (length r) y)))
+    let r = blockSum pool b s (cleared n) [] .scratch in
+    let keeps : (x : List Float) → length x ≡ 64 → length (filled pool b s x) ≡ 64 = λ x k. length-filled pool b s x (omega arith) ∙ k in
+    ap (λ (x : List Float). some (take (length r) x)) (every-channel-at (filled pool b s) keeps c (l .channels) scratch i e)
+    ∙ ap some (scratches-alike pool b s (cleared n) (channelOf c scratch) [] refl ∙ sym (take-append-seam r (drop (length r) lent)))

@@ -16,7 +16,7 @@ use Rattle.ledger.specs.Steps.{Outcome, step, run}
 use Rattle.ledger.specs.Ledger.{Ledger, held, create, fresh}
 use Rattle.ledger.specs.Sums.{eventSum, eventSum-one, numberSum, numberSum-one, weight-in, weightless}
 use Rattle.ledger.specs.Conservation.{fourSum, step-adds}
-use Rattle.ledger.specs.Numbers.{acceptedOf, accepted}
+use Rattle.ledger.specs.Claim.{acceptedOf, accepted}
 use Rattle.ledger.specs.Partition.{Partition, partition, stands, is, Numbered, same, issued, step-numbered, create-empty}
 use Rattle.ledger.specs.Sorted.{Sorted, weaklySorted, sorted-of, early, nanStart, one-if-no, no-one-if}
 use Rattle.ledger.specs.NotNan.{billion, le-not-nan}

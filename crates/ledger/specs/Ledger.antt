@@ -4,7 +4,7 @@ use mathlib.Core.Bool.{true, false, _&&_}
 use mathlib.Core.List.{List, []}
 use lib.Dec.{leb}
 use lib.ListN.{length}
-use lib.Ieee.{Float, div}
+use lib.Ieee.{Float}
 use Rattle.event.specs.declared.Event.{Event}
 use Rattle.event.specs.declared.StoredEdit.{StoredEdit}
 use Rattle.event.specs.declared.ReplayMode.{ReplayMode}
@@ -58,8 +58,3 @@ create channels mode first =
       | true ↦ record { ledger = fresh channels mode first; answer = done }
       | false ↦ record { ledger = fresh 1 All 1; answer = refused 1 }
     ]
-
--- What a case that computes must unfold.
-unfoldable pub computes : Unit {0}
-unfolding div whole fresh create
-computes = tt

@@ -19,8 +19,7 @@ use Rattle.event.specs.declared.Source.{Source}
 use Rattle.event.specs.declared.Source.the-variants.{Held, Ramp, Clip}
 use Rattle.event.specs.declared.Unit as Declared
 use Rattle.event.specs.Events.{numberOf, earlier, newEvent, rewound, withUnit}
-use Rattle.event.specs.Runs.{steps}
-use Rattle.event.specs.Sources.{firstValue, atStart, advanced, advancedBy}
+use Rattle.event.specs.Sources.{steps, firstValue, atStart, advanced, advancedBy}
 use Rattle.floats.specs.Arithmetic.{_+ᵈ_, _-ᵈ_, _×ᵈ_, _<ᶠ_, _≤ᶠ_, _≈ᶠ_, zeroᶠ, oneᶠ, halfᶠ}
 use Rattle.ledger.specs.Calls.{Call, push, edit, tick, block, rate, reset, done, rendered}
 use Rattle.ledger.specs.Lists.{insert, insertAll, has, editOf, dropEdit, withEdit, editIn, start, lastOf, butLast, lastFirst, sweep}
@@ -40,7 +39,7 @@ use Rattle.ledger.specs.WithoutGain.{tickSum, blockSum, AllSingle, Singl
 abbrev ticked : Ledger → (own r : TickSum) → Outcome
 ticked l own r = record {
   ledger = withSounding (advance l (tickEnd l)) (own .events);
-  reply = record { answer = done; out = replicate (l .channels) (r .out); scratch = none; filled = 64 };
+  reply = record { answer = done; out = replicate (l .channels) (r .out); scratch = none; filled = 0 };
 }
 
 abbrev blocked : Ledger → (n : ℕ) → (out : List Float) → (scratch : Option (List Float)) → (own r : BlockSum) → Outcome

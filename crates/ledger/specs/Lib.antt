@@ -2,10 +2,14 @@ pub mod Lists
 pub mod TickSamples
 pub mod BlockSamples
 pub mod Places
+pub mod PlacesWithin
+pub mod TakenPlaces
+pub mod TakenPlacesProof
 pub mod Calls
 pub mod Ledger
 pub mod Refusals
 pub mod Steps
+pub mod Computes
 pub mod Cases
 pub mod CasesOfSlips
 pub mod CasesOfLimits

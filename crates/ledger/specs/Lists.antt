@@ -4,14 +4,12 @@ use mathlib.Core.Bool.{Bool, true, false, _||_, cond}
 use mathlib.Core.List.{List, [], _∷_, _++_}
 use mathlib.Core.Option.{Option, none, some}
 use lib.Dec.{eqb}
-use lib.Ieee.{Float, lt, le, eq, isNan}
+use lib.Ieee.{Float}
 use Rattle.event.specs.declared.Event.{Event}
 use Rattle.event.specs.declared.Edit.{Edit}
 use Rattle.event.specs.declared.StoredEdit.{StoredEdit}
 use Rattle.event.specs.Events.{numberOf, earlier, editedBy}
 use Rattle.floats.specs.Arithmetic.{_<ᶠ_, _≤ᶠ_}
-use Rattle.floats.specs.Floats.{totalLess, negative}
-use Rattle.floats.specs.Sooner.{sooner}
 
 -- ---- W: by start, in IEEE 754's totalOrder, then by lower number
 
@@ -109,8 +107,3 @@ sweep (suc k) limit (e ∷ s) =
       | true ↦ (let r = sweep k limit (lastFirst s) in record { sounding = r .sounding; finished = e ∷ r .finished })
       | false ↦ (let r = sweep k limit s in record { sounding = e ∷ r .sounding; finished = r .finished })
     ]
-
--- What a case that computes must unfold.
-unfoldable pub computes : Unit {0}
-unfolding lt le eq isNan negative totalLess sooner insert insertAll editOf dropEdit storeEdit start sweep
-computes = tt

@@ -19,7 +19,8 @@ use Rattle.ledger.specs.Ledger.{Ledger, held, create, fresh}
 use Rattle.ledger.specs.Lists.{has}
 use Rattle.ledger.specs.Sums.{numberSum, numberSum-append, numberSum-one, eventSum-one}
 use Rattle.ledger.specs.Conservation.{fourSum, refused-none, step-adds}
-use Rattle.ledger.specs.Numbers.{acceptedOf, accepted, times, among, upFrom}
+use Rattle.ledger.specs.Numbers.{upFrom}
+use Rattle.ledger.specs.Claim.{acceptedOf, accepted, times, among}
 
 pub fourSum-run : (u : ℕ → ℕ) (cs : List Call) (l : Ledger) → fourSum u (run cs l .ledger) ≡ fourSum u l + numberSum u (accepted (run cs l .replies))
 unfolding run

@@ -1,15 +1,11 @@
 -- Document 02, Paper 12: "a block reports of its s, z and fade places how many were kept as rounded, how many forced (only by the index step, by the cuts to the block's size and to 64, or as a rounded fade-out place raised to s), and how many set at an edge without the index step, as s at start ≤ t. Each counts once, a fade's only where `fade_in` or `fade_out` computes it."
-use Prim.Native.Nat.{ℕ, _+_, _*_, _≤_}
-use mathlib.Core.Bool.{Bool, true, false, _&&_, cond}
+use Prim.Native.Nat.{ℕ}
+use mathlib.Core.Bool.{_&&_, cond}
 use mathlib.Core.List.{List, [], _∷_, _++_}
-use mathlib.Core.Path.{_≡_, refl}
-use native.Mathlib.Omega.{arith}
 use lib.Dec.{ltb, leb}
-use lib.Ieee.{Float, add, sub, mul, div, lt, le}
-use lib.ListN.{length, length-append}
+use lib.Ieee.{Float}
 use Rattle.floats.specs.Arithmetic.{_+ᵈ_, _-ᵈ_, _×ᵈ_, _÷ᵈ_, _<ᶠ_, _≤ᶠ_, zeroᶠ}
-use Rattle.floats.specs.Floats.{index}
-use Rattle.floats.specs.IndexStep.{clampOf, isFree}
+use Rattle.floats.specs.Floats.{index, clampOf, isFree}
 use Rattle.event.specs.declared.Event.{Event}
 use Rattle.event.specs.declared.Placing.{Placing}
 use Rattle.event.specs.declared.Placing.the-variants.{Kept, Forced, Edge}
@@ -56,36 +52,3 @@ eventPlacings b e =
 unfoldable pub placings : Span → List Event → List Placing
 placings b [] = []
 placings b (e ∷ l) = eventPlacings b e ++ placings b l
-
--- What a case that computes must unfold.
-unfoldable pub computes : Unit {0}
-unfolding add sub mul div lt le index clampOf rounded firstPlace endPlace fadeOutPlace firstPlacing endPlacing fadeInPlacing fadeOutPlacing fadeInPlacings fadeOutPlacings eventPlacings placings
-computes = tt
-
--- ---- an event has two to four places
-
-fades-within : (b : Span) (s : ℕ) (e : Event) → length (fadeInPlacings b e ++ fadeOutPlacings b s e) ≤ 2
-unfolding fadeInPlacings fadeOutPlacings
-fades-within b s e = go (zeroᶠ <ᶠ e .«fade_in» && b .clock <ᶠ (e .«start_time» +ᵈ e .«fade_in»)) (zeroᶠ <ᶠ e .«fade_out» && (e .«end_time» -ᵈ e .«fade_out») <ᶠ b .upto)
-  where
-    go : (t u : Bool) → length (cond t (fadeInPlacing b e ∷ []) [] ++ cond u (fadeOutPlacing b s e ∷ []) []) ≤ 2
-    go true true = omega arith
-    go true false = omega arith
-    go false true = omega arith
-    go false false = omega arith
-
-event-within : (b : Span) (e : Event) → length (eventPlacings b e) ≤ 4
-unfolding eventPlacings
-event-within b e = go (ltb (firstPlace b e) (endPlace b e))
-  where
-    fades : List Placing
-    fades = fadeInPlacings b e ++ fadeOutPlacings b (firstPlace b e) e
-
-    go : (t : Bool) → length (firstPlacing b e ∷ endPlacing b e ∷ cond t fades []) ≤ 4
-    go true = omega (arith, fades-within b (firstPlace b e) e)
-    go false = omega arith
-
-pub placings-within : (b : Span) (l : List Event) → length (placings b l) ≤ 4 * length l
-unfolding placings
-placings-within b [] = omega arith
-placings-within b (e ∷ l) = omega (arith, length-append (eventPlacings b e) (placings b l), event-within b e, placings-within b l)

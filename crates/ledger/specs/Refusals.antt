@@ -5,7 +5,7 @@ use mathlib.Core.List.{List, [], _∷_}
 use mathlib.Core.Option.{Option, none, some}
 use lib.Dec.{ltb, leb, eqb}
 use lib.ListN.{length}
-use lib.Ieee.{Float, nan, inf, fin, neg, add, sub, mul, lt, le}
+use lib.Ieee.{Float, nan, inf, fin, neg}
 use lib.Ieee.Scale.{finite}
 use Rattle.event.specs.declared.Edit.{Edit}
 use Rattle.event.specs.declared.Source.{Source}
@@ -114,8 +114,3 @@ checks l reset = []
 
 unfoldable pub refusal : Ledger → Call → Option ℕ
 refusal l c = firstOf (checks l c)
-
--- What a case that computes must unfold.
-unfoldable pub computes : Unit {0}
-unfolding add sub mul lt le neg whole editOf firstOf within withinEnd statedEnd editEnd tickEnd blockEnd pushChecks editChecks checks refusal
-computes = tt

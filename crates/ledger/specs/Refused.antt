@@ -1,19 +1,21 @@
--- A refused call changes nothing, lent lists included; and a call that is not refused passed all its checks. Assumes nothing.
-use Prim.Native.Nat.{ℕ}
-use mathlib.Core.Path.{_≡_, refl}
+-- A refused call changes nothing, lent lists included, of the ledger and of what replies alike; a call that is not refused passed all its checks.
+use Prim.Native.Nat.{ℕ, suc, _<_}
+use mathlib.Core.Path.{_≡_, refl, ap, ap₂}
 use mathlib.Core.Bool.{Bool, true, false, not}
 use mathlib.Core.List.{List, [], _∷_}
 use mathlib.Core.Option.{Option, none, some}
 use native.Mathlib.Omega.{arith}
 use lib.Dec.{T}
+use lib.ListN.{length, getD}
 use lib.Ieee.{Float}
 use Rattle.event.specs.declared.Edit.{Edit}
-use Rattle.floats.specs.Arithmetic.{_<ᶠ_}
-use Rattle.ledger.specs.Calls.{Call, push, edit, tick, block, rate, reset, Answer, number, applied, past, stored, done, rendered, refused}
+use Rattle.floats.specs.Arithmetic.{_<ᶠ_, zeroᶠ}
+use Rattle.ledger.specs.Calls.{Call, push, edit, tick, block, rate, reset, Answer, number, applied, past, stored, done, rendered, refused, Reply}
 use Rattle.ledger.specs.Lists.{has}
 use Rattle.ledger.specs.Ledger.{Ledger}
-use Rattle.ledger.specs.Refusals.{Check, refuses, firstOf, refusal, editEnd}
+use Rattle.ledger.specs.Refusals.{Check, refuses, firstOf, lengthOr, refusal, editEnd}
 use Rattle.ledger.specs.Steps.{Outcome, change, accept, refusedReply, decide, step}
+use Rattle.ledger.specs.Claim.{SameReply, SameScratch}
 
 -- ---- what is lent to a call to be written
 
@@ -81,6 +83,28 @@ refused-unchanged l c k h = go (refusal l c) h
     go : (o : Option ℕ) → decide o l c .reply .answer ≡ refused k → Unchanged l c (decide o l c)
     go (some j) h = unchanged l c j
     go none h = absurd (let r = accept-never-refuses l c in let z : _≡_ {A = ℕ} 0 1 = cc in omega arith)
+
+-- ---- a reply that the claim takes for a refusal's gives back all that was lent, every place of it
+
+same-places : (a b : List Float) → length a ≡ length b → ((j : ℕ) → j < length b → getD a j zeroᶠ ≡ getD b j zeroᶠ) → a ≡ b
+same-places [] [] n h = refl
+same-places [] (y ∷ m) n h = absurd (omega arith)
+same-places (x ∷ l) [] n h = absurd (omega arith)
+same-places (x ∷ l) (y ∷ m) n h = ap₂ (λ z r. z ∷ r) (h 0 (omega arith)) (same-places l m (omega arith) (λ j k. h (suc j) (omega arith)))
+
+same-lent : (a b : Option (List Float)) → SameScratch (lengthOr 0 b) a b → a ≡ b
+same-lent none none h = refl
+same-lent none (some b) h = absurd h
+same-lent (some a) none h = absurd h
+same-lent (some a) (some b) h = ap some (same-places a b (h .0) (h .1))
+
+pub lent-back : (r : Reply) (c : Call) (k : ℕ) → SameReply r (refusedReply k c) → (r .out ≡ lentOut c) × (r .scratch ≡ lentScratch c)
+lent-back r (push kind start end fade-in fade-out curve source gain) k h = (h .out, same-lent (r .scratch) none (h .scratch))
+lent-back r (edit kind n end fade-out) k h = (h .out, same-lent (r .scratch) none (h .scratch))
+lent-back r (tick order pool out) k h = (h .out, same-lent (r .scratch) none (h .scratch))
+lent-back r (block order n pool out scratch) k h = (h .out, same-lent (r .scratch) scratch (h .scratch))
+lent-back r (rate x) k h = (h .out, same-lent (r .scratch) none (h .scratch))
+lent-back r reset k h = (h .out, same-lent (r .scratch) none (h .scratch))
 
 -- ---- a call that no refusal names
 

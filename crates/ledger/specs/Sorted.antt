@@ -9,8 +9,8 @@ use lib.Dec.{T, ltb, eqb, T-not, not-T}
 use lib.Ieee.{Float, lt, eq, isNan}
 use lib.Ieee.Fits.{eq→eqb}
 use lib.Ieee.Bits.{is-false}
-use Rattle.floats.specs.Floats.{totalLess, negative}
-use Rattle.floats.specs.Sooner.{sooner, sooner-asymmetric, sooner-total, not-sooner-transitive}
+use Rattle.floats.specs.Floats.{totalLess, negative, sooner}
+use Rattle.floats.specs.Sooner.{sooner-asymmetric, sooner-total, not-sooner-transitive}
 use Rattle.event.specs.declared.Event.{Event}
 use Rattle.event.specs.declared.StoredEdit.{StoredEdit}
 use Rattle.event.specs.Events.{numberOf, earlier, rewound}

@@ -17,18 +17,12 @@ use Rattle.event.specs.Events.{newEvent, rewound}
 use Rattle.event.specs.Placings.{tally}
 use Rattle.floats.specs.Arithmetic.{_+ᵈ_, _-ᵈ_, _×ᵈ_, _÷ᵈ_, _<ᶠ_, _≈ᶠ_, zeroᶠ, oneᶠ, halfᶠ, -∞}
 use Rattle.ledger.specs.Calls.{Call, PushKind, absolute, relative, byDuration, push, edit, tick, block, rate, reset, Answer, number, applied, past, stored, done, rendered, refused, Reply}
-use Rattle.ledger.specs.Lists as Lists
 use Rattle.ledger.specs.Lists.{insert, insertAll, numbers, has, storeEdit, editIn, start, sweep}
-use Rattle.ledger.specs.TickSamples as Tick
 use Rattle.ledger.specs.TickSamples.{tickSum}
-use Rattle.ledger.specs.BlockSamples as Block
 use Rattle.ledger.specs.BlockSamples.{Span, blockSum, overlay, overlayScratch}
-use Rattle.ledger.specs.Places as Places
 use Rattle.ledger.specs.Places.{placings}
-use Rattle.ledger.specs.Ledger as State
 use Rattle.ledger.specs.Ledger.{Ledger}
-use Rattle.ledger.specs.Refusals as Refusals
-use Rattle.ledger.specs.Refusals.{statedEnd, editEnd, tickEnd, blockEnd, refusal}
+use Rattle.ledger.specs.Refusals.{statedEnd, editEnd, lengthOr, tickEnd, blockEnd, refusal}
 
 pub record Outcome : Type 0 where
   pub ledger : Ledger
@@ -36,7 +30,7 @@ pub record Outcome : Type 0 where
 
 -- a call to which nothing was lent to be written
 abbrev pub answers : Answer → Reply
-answers a = record { answer = a; out = []; scratch = none; filled = 64 }
+answers a = record { answer = a; out = []; scratch = none; filled = 0 }
 
 -- the ledger with other lists, clock and threshold
 abbrev pub withLists : Ledger → (waiting sounding finished : List Event) → List StoredEdit → (clock threshold : Float) → (gone : List ℕ) → Ledger
@@ -169,7 +163,7 @@ accept l (tick order pool out) =
     let r = tickSum pool (l .clock) (inOrder order (m .sounding)) zeroᶠ in
     record {
       ledger = withSounding m (tickSum pool (l .clock) (m .sounding) zeroᶠ .events);
-      reply = record { answer = done; out = replicate (l .channels) (r .out); scratch = none; filled = 64 };
+      reply = record { answer = done; out = replicate (l .channels) (r .out); scratch = none; filled = 0 };
     }
 accept l (block order n pool out scratch) =
     let m = advance l (blockEnd l n) in
@@ -186,13 +180,13 @@ accept l (block order n pool out scratch) =
 accept l (rate r) = record { ledger = setRate l r (l .rate ≈ᶠ r); reply = answers done }
 accept l reset = record { ledger = restart l (l .mode); reply = answers done }
 
--- ---- a refused call leaves the ledger and all that is lent unchanged
+-- ---- "a refused call leaves it and all that is lent unchanged": of a lent scratch every place counts
 
 abbrev pub refusedReply : (k : ℕ) → Call → Reply
 refusedReply k (push kind start end fade-in fade-out curve source gain) = answers (refused k)
 refusedReply k (edit kind n end fade-out) = answers (refused k)
-refusedReply k (tick order pool out) = record { answer = refused k; out = out; scratch = none; filled = 64 }
-refusedReply k (block order n pool out scratch) = record { answer = refused k; out = out; scratch = scratch; filled = 64 }
+refusedReply k (tick order pool out) = record { answer = refused k; out = out; scratch = none; filled = 0 }
+refusedReply k (block order n pool out scratch) = record { answer = refused k; out = out; scratch = scratch; filled = lengthOr 0 scratch }
 refusedReply k (rate r) = answers (refused k)
 refusedReply k reset = answers (refused k)
 
@@ -215,8 +209,3 @@ run (c ∷ cs) l =
     let a = step l c in
     let r = run cs (a .ledger) in
     record { ledger = r .ledger; replies = a .reply ∷ r .replies }
-
--- What a case that computes must unfold.
-unfoldable pub computes : Unit {0}
-unfolding Lists.computes Tick.computes Block.computes Places.computes State.computes Refusals.computes pushedTime enter change advance setRate restart accept decide step run
-computes = tt

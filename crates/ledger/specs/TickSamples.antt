@@ -1,7 +1,7 @@
 -- Document 01, "Tick samples": what the sounding events add to a tick at clock t, and where their sources stand after it.
 use mathlib.Core.Bool.{_&&_, cond}
 use mathlib.Core.List.{List, [], _∷_}
-use lib.Ieee.{Float, round, ofBits, add, sub, mul, lt}
+use lib.Ieee.{Float}
 use Rattle.floats.specs.Arithmetic.{_+ᵈ_, _-ᵈ_, _+ˢ_, _-ˢ_, _×ˢ_, _<ᶠ_, zeroᶠ, oneᶠ}
 use Rattle.floats.specs.Floats.{narrowed}
 use Rattle.math.specs.Curves.{delerped}
@@ -39,8 +39,3 @@ tickSum pool t [] out = record { out = out; events = [] }
 tickSum pool t (e ∷ s) out =
     let r = tickSum pool t s (out +ˢ tickSample pool t e) in
     record { out = r .out; events = afterTick e ∷ r .events }
-
--- What a case that computes must unfold.
-unfoldable pub computes : Unit {0}
-unfolding add sub mul lt round ofBits delerped narrowed curve fadedIn fadedOut tickSum
-computes = tt

@@ -13,8 +13,7 @@ use Rattle.event.specs.declared.Event.{Event}
 use Rattle.event.specs.declared.Source.{Source}
 use Rattle.event.specs.declared.Source.the-variants.{Held, Ramp, Clip}
 use Rattle.event.specs.declared.Unit as Declared
-use Rattle.event.specs.Runs.{made}
-use Rattle.event.specs.Sources.{sampleAt, sampleOf, advancedAt, advanced, nextSamples}
+use Rattle.event.specs.Sources.{made, sampleAt, sampleOf, advancedAt, advanced, nextSamples}
 use Rattle.ledger.specs.TickSamples as Tick
 use Rattle.ledger.specs.TickSamples.{fadedIn, fadedOut, afterTick, TickSum}
 use Rattle.ledger.specs.BlockSamples as Block

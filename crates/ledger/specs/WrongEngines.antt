@@ -1,22 +1,24 @@
--- Document 01's conditions of acceptance: the claim is refuted for each of the six wrong engines. Assumes nothing.
-use Prim.Native.Nat.{ℕ, _^_, _%_}
+-- Document 01's conditions of acceptance: the claim is refuted for each of the six wrong engines, and for one that writes a refused block's scratch.
+use Prim.Native.Nat.{ℕ, zero, suc, _-_, _^_, _%_, _<_}
 use mathlib.Core.Path.{_≡_, refl, ap}
 use mathlib.Core.Bool.{Bool, true, false}
-use mathlib.Core.List.{List, [], _∷_, List·Memᴰ·head}
+use mathlib.Core.List.{List, [], _∷_, _++_, List·Memᴰ·head}
 use mathlib.Core.Option.{Option, none, some}
 use native.Mathlib.Omega.{arith}
-use lib.ListN.{length, getD, replicate}
+use lib.ListN.{length, getD, take, replicate}
 use lib.Ieee.{Float, nan, inf, fin}
 use Rattle.floats.specs.Arithmetic.{zeroᶠ, oneᶠ, whole}
 use Rattle.event.specs.declared.Fade.the-variants.{Smooth}
 use Rattle.event.specs.declared.MixOrder.the-variants.{Forward}
+use Rattle.event.specs.declared.ReplayMode.{ReplayMode}
 use Rattle.event.specs.declared.ReplayMode.the-variants.{All, None}
 use Rattle.event.specs.declared.Source.the-variants.{Held}
 use Rattle.ledger.specs.Calls.{Call, push, edit, tick, block, rate, reset, absolute, number, done, refused, Reply}
 use Rattle.ledger.specs.Lists.{placeOf}
 use Rattle.ledger.specs.Ledger.{Ledger, create}
-use Rattle.ledger.specs.Steps.{refusedReply, withLists, step, run, computes}
-use Rattle.ledger.specs.Claim.{Counts, Engine, calls, Claim}
+use Rattle.ledger.specs.Steps.{refusedReply, withLists, step, run}
+use Rattle.ledger.specs.Computes.{computes}
+use Rattle.ledger.specs.Claim.{Counts, Engine, calls, engineAfter, ledgerAfter, AllLend, Claim}
 use Rattle.ledger.specs.LedgerMeets.{viewOf, pairOf, engineOf}
 
 -- ---- calls that show the difference
@@ -151,9 +153,22 @@ not-repeating b d =
     let h = first-sample b d in
     let z : _≡_ {A = ℕ} 0 1 = cc in omega arith
 
--- ---- 6: it invents the let-go count. By the ledger: no count is L both at creation and after a reset in mode None.
+-- ---- 6: it invents the let-go count. By the ledger: what it tells after some list of calls is not L.
 
-abbrev inventing : (count : ℕ) → (lends : Bool) → Engine
+pub record Invents (E : Engine) : Type 0 where
+  pub channels : ℕ
+  pub mode : ReplayMode
+  pub first : ℕ
+  pub cs : List Call
+  pub known : first < 2 ^ 64
+  pub lent : AllLend (E .lends) cs
+  pub differs : ¬ (engineAfter E channels mode first cs .view .counts .gone ≡ length (ledgerAfter channels mode first cs .ledger .gone))
+
+pub not-inventing : (E : Engine) → Invents E → ¬ Claim E
+not-inventing E v d = v .differs (ap (λ (c : Counts). c .gone) (d (v .channels) (v .mode) (v .first) (v .cs) (v .known) (v .lent) .state .counts))
+
+-- the ledger, with a count of its own
+abbrev inventing : (count : Ledger → ℕ) → (lends : Bool) → Engine
 inventing count b = record {
   State = Ledger;
   lends = b;
@@ -163,7 +178,7 @@ inventing count b = record {
     heap = l .waiting;
     sounding = l .sounding;
     finished = l .finished;
-    counts = record { waiting = length (l .waiting); sounding = length (l .sounding); finished = length (l .finished); gone = count };
+    counts = record { waiting = length (l .waiting); sounding = length (l .sounding); finished = length (l .finished); gone = count l };
     index = λ k. placeOf k (l .sounding);
     edits = l .edits;
     clock = l .clock;
@@ -176,9 +191,47 @@ inventing count b = record {
   };
 }
 
-pub not-inventing : (count : ℕ) (b : Bool) → ¬ Claim (inventing count b)
+-- a constant is not L at creation, or after a reset in mode None
+constant-invents : (count : ℕ) (b : Bool) → Invents (inventing (λ l. count) b)
 unfolding calls computes
-not-inventing count b d =
-    let before : count ≡ 0 = ap (λ (c : Counts). c .gone) (d 1 None 1 [] (omega arith) tt .state .counts) in
-    let after : count ≡ 1 = ap (λ (c : Counts). c .gone) (d 1 None 1 (clip ∷ reset ∷ []) (omega arith) (tt, (tt, tt)) .state .counts) in
-    omega arith
+constant-invents zero b = record {
+  channels = 1;
+  mode = None;
+  first = 1;
+  cs = clip ∷ reset ∷ [];
+  known = omega arith;
+  lent = (tt, (tt, tt));
+  differs = λ h. let z : _≡_ {A = ℕ} 0 1 = h in omega arith;
+}
+constant-invents (suc n) b = record {
+  channels = 1;
+  mode = None;
+  first = 1;
+  cs = [];
+  known = omega arith;
+  lent = tt;
+  differs = λ h. let z : suc n ≡ 0 = h in omega arith;
+}
+
+pub not-constant : (count : ℕ) (b : Bool) → ¬ Claim (inventing (λ l. count) b)
+not-constant count b = not-inventing (inventing (λ l. count) b) (constant-invents count b)
+
+-- ---- One more: it writes a lent scratch from place 64 on. An accepted block's has 64 places, so that a refused block alone shows it. By what is lent back.
+
+abbrev overrun : Option (List Float) → Option (List Float)
+overrun none = none
+overrun (some l) = some (take 64 l ++ replicate (length l - 64) oneᶠ)
+
+abbrev overrunning : Ledger → Call → Ledger × Reply
+overrunning l c =
+    let o = step l c in
+    (o .ledger, record { answer = o .reply .answer; out = o .reply .out; scratch = overrun (o .reply .scratch); filled = o .reply .filled })
+
+abbrev long-block : Call
+long-block = block Forward 8 [] zeros (some (replicate 128 zeroᶠ))
+
+pub not-overrunning : ¬ Claim (engineOf true overrunning)
+unfolding calls computes
+not-overrunning d =
+    let h : oneᶠ ≡ zeroᶠ = d 1 All 1 (long-block ∷ []) (omega arith) (refl, tt) .replies .0 .scratch .1 64 (omega arith) in
+    let z : _≡_ {A = ℕ} 0 1 = cc in omega arith

@@ -19,7 +19,8 @@ use Rattle.event.specs.Placings.{noPlacings}
 use Rattle.ledger.specs.Calls.{Call, Answer, number, applied, past, stored, done, rendered, refused, Reply}
 use Rattle.ledger.specs.Lists.{editOf}
 use Rattle.ledger.specs.Ledger.{Ledger, create}
-use Rattle.ledger.specs.Steps.{run, computes}
+use Rattle.ledger.specs.Steps.{run}
+use Rattle.ledger.specs.Computes.{computes}
 
 -- the pool that every list's clips play from
 abbrev pub pool : List Float

@@ -22,11 +22,6 @@ fn random(seed: u32) -> u32 {
     x ^ (x << 5)
 }
 
-fn index(x: f64) -> u64 {
-    let i = floats::sample_index(x);
-    i.index
-}
-
 // One of 64 starts, so that many are equal: -0.0, 0.0, and quarters up to 15.75.
 fn start_of(code: u64) -> f64 {
     if code == 0 {
@@ -59,8 +54,8 @@ fn seen(digest: u64, event: Event) -> u64 {
     let id = event.id;
     let unit = event.unit;
     let digest = mixed(digest, id.0);
-    let digest = mixed(digest, index(event.start_time * 4.0));
-    let digest = mixed(digest, index(event.end_time * 4.0));
+    let digest = mixed(digest, floats::nearest_index(event.start_time * 4.0));
+    let digest = mixed(digest, floats::nearest_index(event.end_time * 4.0));
     mixed(digest, unit.place as u64)
 }
 
@@ -229,7 +224,7 @@ fn all_edits(start: u64, edits: EditMap) -> u64 {
         let id = stored.id;
         let edit = stored.edit;
         digest = mixed(digest, id.0);
-        digest = mixed(digest, index(edit.end_time));
+        digest = mixed(digest, floats::nearest_index(edit.end_time));
         i = i + 1;
     }
     digest
@@ -237,7 +232,7 @@ fn all_edits(start: u64, edits: EditMap) -> u64 {
 
 fn looked_up(digest: u64, found: FoundEdit) -> u64 {
     match found {
-        FoundEdit::Stored(edit) => mixed(mixed(digest, 1), index(edit.end_time)),
+        FoundEdit::Stored(edit) => mixed(mixed(digest, 1), floats::nearest_index(edit.end_time)),
         FoundEdit::Missing => mixed(digest, 0),
     }
 }
@@ -335,13 +330,17 @@ fn main() {
     print(b"heap  ", heap_digest(40000));
     print(b"index ", index_digest(20000));
     print(b"edits ", edit_digest(20000));
-    print(b"peak 0    ", peaks::peak_digest(0));
-    print(b"peak 1    ", peaks::peak_digest(1));
-    print(b"peak 2    ", peaks::peak_digest(2));
-    print(b"peak 64   ", peaks::peak_digest(64));
-    print(b"peak 1000 ", peaks::peak_digest(1000));
-    print(b"peak 4095 ", peaks::peak_digest(4095));
-    print(b"peak 4096 ", peaks::peak_digest(4096));
-    print(b"peak 4097 ", peaks::peak_digest(4097));
+    print(b"peak 0    ", peaks::peak_digest(0, 4096));
+    print(b"peak 1    ", peaks::peak_digest(1, 4096));
+    print(b"peak 2    ", peaks::peak_digest(2, 4096));
+    print(b"peak 64   ", peaks::peak_digest(64, 4096));
+    print(b"peak 1000 ", peaks::peak_digest(1000, 4096));
+    print(b"peak 4095 ", peaks::peak_digest(4095, 4096));
+    print(b"peak 4096 ", peaks::peak_digest(4096, 4096));
+    print(b"peak 4097 ", peaks::peak_digest(4097, 4096));
+    print(b"peak 1 in 0   ", peaks::peak_digest(1, 0));
+    print(b"peak 64 in 0  ", peaks::peak_digest(64, 0));
+    print(b"peak 64 in 63 ", peaks::peak_digest(64, 63));
+    print(b"peak 64 in 64 ", peaks::peak_digest(64, 64));
     print(b"hours ", hours::hours_digest(4000));
 }

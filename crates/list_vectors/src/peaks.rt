@@ -1,5 +1,7 @@
-// Random feeds through `peak`, single ones and runs, empty ones and some longer than any window.
+// Random feeds through `peak`, single ones and runs, empty ones and some longer than any window, and at times one with a row that is a word too short.
 ghost use Prim.Native.Nat.{_≤_};
+use peak::Outcome;
+use peak::Reading;
 use peak::RunningPeak;
 
 // Sample i of the history. Its magnitude is random, below a power of two that falls in 24 steps of a quarter of the window and then rises again: mostly the greatest of a window is near its beginning, and leaves it soon.
@@ -25,13 +27,7 @@ fn fill(run: &mut [f32], i: u64, window: u64) {
     }
 }
 
-fn fill_and_feed(
-    p: RunningPeak,
-    row: &mut [u32],
-    run: &mut [f32],
-    i: u64,
-    window: u64,
-) -> RunningPeak {
+fn fill_and_feed(p: RunningPeak, row: &mut [u32], run: &mut [f32], i: u64, window: u64) -> Outcome {
     fill(run, i, window);
     p.feed_run(row, run)
 }
@@ -50,21 +46,67 @@ fn run_length(r: u64, most: usize) -> usize
 struct Fed {
     peak: RunningPeak,
     count: u64,
+    refusal: u64,
+}
+
+// After so many samples, of which none count if they were refused.
+fn counted(fed: Fed, outcome: Outcome, n: u64) -> Fed {
+    let p = outcome.peak;
+    if outcome.refusal != 0 {
+        return Fed {
+            peak: p,
+            count: fed.count,
+            refusal: outcome.refusal,
+        };
+    }
+    Fed {
+        peak: p,
+        count: std::num::wrapping_add_u64(fed.count, n),
+        refusal: 0,
+    }
+}
+
+// One less than the window, and at most the row.
+fn too_few(window: usize, words: usize) -> usize
+    ensures { λ r. ⌜ r ≤ words ⌝ }
+{
+    if window <= words {
+        if 0 < window {
+            return window - 1;
+        }
+    }
+    0
+}
+
+// One sample, with a row that is a word shorter than the window in force.
+fn feed_short(fed: Fed, row: &mut [u32], window: u64) -> Fed {
+    let p = fed.peak;
+    let n = too_few(p.window, row.len());
+    let outcome = p.feed(&mut row[..n], sample(fed.count, window));
+    counted(fed, outcome, 1)
 }
 
 // One feed. Of four, three are single samples.
 fn feed(fed: Fed, row: &mut [u32], run: &mut [f32], r: u64, window: u64) -> Fed {
     let p = fed.peak;
     if r % 4 < 3 {
-        return Fed {
-            peak: p.feed(row, sample(fed.count, window)),
-            count: std::num::wrapping_add_u64(fed.count, 1),
-        };
+        if r / 4 % 16 == 0 {
+            return feed_short(fed, row, window);
+        }
+        let outcome = p.feed(row, sample(fed.count, window));
+        return counted(fed, outcome, 1);
     }
     let n = run_length(r / 4, run.len());
-    Fed {
-        peak: fill_and_feed(p, row, &mut run[..n], fed.count, window),
-        count: std::num::wrapping_add_u64(fed.count, n as u64),
+    let outcome = fill_and_feed(p, row, &mut run[..n], fed.count, window);
+    counted(fed, outcome, n as u64)
+}
+
+// The digest with a refusal and an answer in it.
+fn seen(digest: u64, refusal: u64, reading: Reading) -> u64 {
+    let digest = digests::mixed(digest, refusal);
+    match reading {
+        Reading::Peak(x) => digests::mixed(digests::mixed(digest, 0), x as u64),
+        Reading::Refused(n) => digests::mixed(digests::mixed(digest, 1), n),
     }
 }
 
@@ -72,8 +114,12 @@ fn feed(fed: Fed, row: &mut [u32], run: &mut [f32], r: u64, window: u64) -> Fed 
 fn all_feeds(window: usize, rounds: u64, row: &mut [u32], run: &mut [f32]) -> u64 {
     let made = RunningPeak::new(window, row);
     let p = made.peak;
-    let mut digest = digests::mixed(made.refusal, p.peak(row) as u64);
-    let mut fed = Fed { peak: p, count: 0 };
+    let mut digest = seen(0, made.refusal, p.peak(row));
+    let mut fed = Fed {
+        peak: p,
+        count: 0,
+        refusal: 0,
+    };
     let mut seed: u32 = 521288629;
     let mut left = rounds;
     while left > 0 {
@@ -81,13 +127,26 @@ fn all_feeds(window: usize, rounds: u64, row: &mut [u32], run: &mut [f32]) -> u6
         seed = crate::random(seed);
         fed = feed(fed, row, run, seed as u64, window as u64);
         let p = fed.peak;
-        digest = digests::mixed(digest, p.peak(row) as u64);
+        digest = seen(digest, fed.refusal, p.peak(row));
     }
     digests::mixed(digest, fed.count)
 }
 
-pub(crate) fn peak_digest(window: usize) -> u64 {
-    let mut row = [7u32; 4096];
+// The smaller one.
+fn least(a: usize, b: usize) -> usize
+    ensures { λ r. ⌜ r ≤ b ⌝ }
+{
+    if a < b { a } else { b }
+}
+
+fn feeds_in(window: usize, words: usize, row: &mut [u32], run: &mut [f32]) -> u64 {
+    let n = least(words, row.len());
+    all_feeds(window, 20000, &mut row[..n], run)
+}
+
+// A row of up to 4,096 words, each of them above every magnitude at the beginning.
+pub(crate) fn peak_digest(window: usize, words: usize) -> u64 {
+    let mut row = [0xffff_ffffu32; 4096];
     let mut run = [0.0f32; 5000];
-    all_feeds(window, 20000, &mut row, &mut run)
+    feeds_in(window, words, &mut row, &mut run)
 }

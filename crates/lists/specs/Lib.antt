@@ -5,6 +5,7 @@ pub mod Rounds
 pub mod Past
 pub mod Holds
 pub mod Numbered
+pub mod PlaceFound
 pub mod Sounding
 pub mod OneEdit
 pub mod EditList

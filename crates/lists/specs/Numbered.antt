@@ -10,7 +10,8 @@ use lib.ListN.{getD, set, length}
 use borrow.Author.Tests.{eqb-true, eqb-false, eq-eqb, ne-eqb}
 use Rattle.event.specs.declared.Event.{Event}
 use Rattle.event.specs.declared.Edit.{Edit}
-use Rattle.event.specs.Events.{blank, numberOf, editedBy}
+use Rattle.event.specs.Events.{numberOf, editedBy}
+use Rattle.event.specs.Blank.{blank}
 use Rattle.ledger.specs.Lists.{has, later, placeOf, editIn, lastOf, butLast, lastFirst}
 
 -- ---- a place by its number

@@ -10,11 +10,13 @@ use lib.ListN.{getD, set, length, take, length-append, length-map, List·getD-ma
 use Rattle.event.specs.declared.Event.{Event}
 use Rattle.event.specs.declared.EventId.{EventId}
 use Rattle.event.specs.declared.Edit.{Edit}
-use Rattle.event.specs.Events.{blank, numberOf, editedBy}
+use Rattle.event.specs.Events.{numberOf, editedBy}
+use Rattle.event.specs.Blank.{blank}
 use Rattle.ledger.specs.Lists.{has, later, placeOf, editIn, lastOf, butLast, lastFirst}
 use Rattle.lists.specs.declared.Found.{Found}
 use Rattle.lists.specs.declared.Found.the-variants.{At, Nothing}
 use Rattle.lists.specs.Index.{foundId, isId, noId}
+use Rattle.lists.specs.PlaceFound.{placeFound}
 use Rattle.lists.specs.Holds.{Holds, holds-to, holds-length, holds-append, holds-set, holds-at, holds-none, holds-swap, holds-seek, place, swapOut}
 use Rattle.lists.specs.Numbered.{Distinct, place-stands, place-none, none-place, distinct-place, edit-place}
 
@@ -26,10 +28,6 @@ abbrev pub Listed : List Event → List EventId → ℕ → List Event → Type 
 Listed xs ids n l = Holds xs n l × Holds ids n (map idOf l)
 
 -- ---- what the index gives
-
-abbrev pub placeFound : Found → Option ℕ
-placeFound (At i) = some i
-placeFound Nothing = none
 
 abbrev raised : ℕ → Option ℕ → Option ℕ
 raised b none = none

@@ -1,4 +1,5 @@
--- Document 02, Paper 11, by arithmetic over all weeks: what an answer is to be. Theorem.antt proves it of every answer.
+-- Document 02, Paper 11, by arithmetic over all weeks: what an answer is to be.
+-- Theorem.antt proves it of every answer of the code, and OneAnswer.antt that no other answer meets it.
 use mathlib.Core.Path.{_≡_}
 use mathlib.Core.List.{List, List·Memᴰ}
 use Prim.Native.Nat.{ℕ, _+_, _-_, _*_, _^_, _≤_, _<_}
@@ -51,6 +52,8 @@ pub record Right (h : Hours) (minute n : ℕ) (a : Answer) : Type 0 where
   -- so exactly where the length fits at no minute at all
   pub never : Proper h minute n → ((t : ℕ) → Fits (inUse h) n t → ⊥) → a ≡ Refused 22
   pub nowhere : a ≡ Refused 22 → (t : ℕ) → Fits (inUse h) n t → ⊥
+  -- where neither applies, a minute is answered
+  pub answers : Proper h minute n → (Short (inUse h) n → ⊥) → (t : ℕ) × (a ≡ At t)
   -- "the earliest minute, not before the given one, at which the whole length fits in one window"
   pub later : (t : ℕ) → a ≡ At t → minute ≤ t
   pub fits : (t : ℕ) → a ≡ At t → Fits (inUse h) n t

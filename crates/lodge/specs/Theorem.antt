@@ -61,11 +61,11 @@ found-inside from n ws t o e =
     omega arith
 
 -- either something is wrong, or the search was made
-data Outcome (h : Hours) (m n : ℕ) (a : Answer) : Type 0 where
+pub data Outcome (h : Hours) (m n : ℕ) (a : Answer) : Type 0 where
   refused : (Proper h m n → ⊥) → a ≡ Refused 21 → Outcome h m n a
   made : Proper h m n → orderly 0 (inUse h) ≡ true → a ≡ searched (inUse h) m n → Outcome h m n a
 
-outcome : (h : Hours) (m n : ℕ) → Outcome h m n (answered h m n)
+pub outcome : (h : Hours) (m n : ℕ) → Outcome h m n (answered h m n)
 outcome h m n = one (ltb 16 (h .count)) refl
   where
     four : h .count ≤ 16 → m ≤ 4294967295 → (n ≡ 0 → ⊥) → (b : Bool) → orderly 0 (inUse h) ≡ b → Outcome h m n (answered h m n)
@@ -85,12 +85,12 @@ outcome h m n = one (ltb 16 (h .count)) refl
     one false e = two (ltb-false 16 (h .count) e) (ltb 4294967295 m) refl
 
 -- three ways in which the search ends
-data Ending (ws : List Window) (m n : ℕ) (a : Answer) : Type 0 where
+pub data Ending (ws : List Window) (m n : ℕ) (a : Answer) : Type 0 where
   now : (t : ℕ) → firstFrom (m % 10080) n ws ≡ found.At t → a ≡ At (m - m % 10080 + t) → Ending ws m n a
   then : (t : ℕ) → firstFrom (m % 10080) n ws ≡ found.Nothing → firstFrom 0 n ws ≡ found.At t → a ≡ At (m - m % 10080 + 10080 + t) → Ending ws m n a
   never : firstFrom 0 n ws ≡ found.Nothing → a ≡ Refused 22 → Ending ws m n a
 
-ending : (ws : List Window) (m n : ℕ) → Ending ws m n (searched ws m n)
+pub ending : (ws : List Window) (m n : ℕ) → Ending ws m n (searched ws m n)
 ending ws m n = one (firstFrom (m % 10080) n ws) refl
   where
     two : firstFrom (m % 10080) n ws ≡ found.Nothing → (f : Found) → firstFrom 0 n ws ≡ f → Ending ws m n (searched ws m n)
@@ -114,14 +114,14 @@ begins : (m : ℕ) → m - m % 10080 ≡ m / 10080 * 10080
 begins m = let e = div-add-mod' m 10080 in omega arith
 
 -- where the length fits, a window is not shorter
-fits-long : (h : Hours) (n t : ℕ) → Fits (inUse h) n t → Short (inUse h) n → ⊥
+pub fits-long : (h : Hours) (n t : ℕ) → Fits (inUse h) n t → Short (inUse h) n → ⊥
 fits-long h n t f k = let x = f .opened in let y = f .open-still in let z = k (f .window) (f .given) in omega arith
 
 module _ (h : Hours) (m n : ℕ) (p : Proper h m n) (o : orderly 0 (inUse h) ≡ true) where
-  now-later : (t : ℕ) → firstFrom (m % 10080) n (inUse h) ≡ found.At t → m ≤ m - m % 10080 + t
+  pub now-later : (t : ℕ) → firstFrom (m % 10080) n (inUse h) ≡ found.At t → m ≤ m - m % 10080 + t
   now-later t e = let k = found-room (m % 10080) n (inUse h) t e .from-on in omega arith
 
-  now-fits : (t : ℕ) → firstFrom (m % 10080) n (inUse h) ≡ found.At t → Fits (inUse h) n (m - m % 10080 + t)
+  pub now-fits : (t : ℕ) → firstFrom (m % 10080) n (inUse h) ≡ found.At t → Fits (inUse h) n (m - m % 10080 + t)
   now-fits t e =
       let r = found-room (m % 10080) n (inUse h) t e in
       let b = begins m in
@@ -129,7 +129,7 @@ module _ (h : Hours) (m n : ℕ) (p : Proper h m n) (o : orderly 0 (inUse h) ≡
       let y = r .open-still in
       record { week = m / 10080; window = r .window; given = r .given; opened = omega arith; open-still = omega arith }
 
-  now-least : (t : ℕ) → firstFrom (m % 10080) n (inUse h) ≡ found.At t → (u : ℕ) → m ≤ u → Fits (inUse h) n u → m - m % 10080 + t ≤ u
+  pub now-least : (t : ℕ) → firstFrom (m % 10080) n (inUse h) ≡ found.At t → (u : ℕ) → m ≤ u → Fits (inUse h) n u → m - m % 10080 + t ≤ u
   now-least t e u l f =
       let b = begins m in
       let d = div-add-mod' m 10080 in
@@ -145,10 +145,10 @@ module _ (h : Hours) (m n : ℕ) (p : Proper h m n) (o : orderly 0 (inUse h) ≡
       (λ k. omega arith))
       (tri (f .week) (m / 10080))
 
-  then-later : (t : ℕ) → m ≤ m - m % 10080 + 10080 + t
+  pub then-later : (t : ℕ) → m ≤ m - m % 10080 + 10080 + t
   then-later t = let d = div-add-mod' m 10080 in let k : m % 10080 < 10080 = mod-lt m (omega arith) in omega arith
 
-  then-fits : (t : ℕ) → firstFrom 0 n (inUse h) ≡ found.At t → Fits (inUse h) n (m - m % 10080 + 10080 + t)
+  pub then-fits : (t : ℕ) → firstFrom 0 n (inUse h) ≡ found.At t → Fits (inUse h) n (m - m % 10080 + 10080 + t)
   then-fits t e =
       let r = found-room 0 n (inUse h) t e in
       let b = begins m in
@@ -156,7 +156,7 @@ module _ (h : Hours) (m n : ℕ) (p : Proper h m n) (o : orderly 0 (inUse h) ≡
       let y = r .open-still in
       record { week = m / 10080 + 1; window = r .window; given = r .given; opened = omega arith; open-still = omega arith }
 
-  then-least : (t : ℕ) → firstFrom (m % 10080) n (inUse h) ≡ found.Nothing → firstFrom 0 n (inUse h) ≡ found.At t
+  pub then-least : (t : ℕ) → firstFrom (m % 10080) n (inUse h) ≡ found.Nothing → firstFrom 0 n (inUse h) ≡ found.At t
       → (u : ℕ) → m ≤ u → Fits (inUse h) n u → m - m % 10080 + 10080 + t ≤ u
   then-least t q e u l f =
       let b = begins m in
@@ -172,7 +172,7 @@ module _ (h : Hours) (m n : ℕ) (p : Proper h m n) (o : orderly 0 (inUse h) ≡
       (λ k. let g = found-least 0 0 n (inUse h) t o e (f .window) (f .given) (omega arith) in omega arith))
       (tri (f .week) (m / 10080))
 
-  all-short : firstFrom 0 n (inUse h) ≡ found.Nothing → Short (inUse h) n
+  pub all-short : firstFrom 0 n (inUse h) ≡ found.Nothing → Short (inUse h) n
   all-short e w g = let k = none-found 0 n (inUse h) e w g in let s = p .some in omega arith
 
 no-both : (a : Answer) (t r : ℕ) → a ≡ At t → a ≡ Refused r → ⊥
@@ -194,9 +194,10 @@ module _ (h : Hours) (m n : ℕ) (a : Answer) where
     short = λ x. absurd (no-both a t 22 k x);
     never = λ _ x. absurd (x t f);
     nowhere = λ x. absurd (no-both a t 22 k x);
+    answers = λ _ _. (t, k);
     later = λ u x. subst (λ (v : ℕ). m ≤ v) (same-at a t u k x) l;
     fits = λ u x. subst (λ (v : ℕ). Fits (inUse h) n v) (same-at a t u k x) f;
-    earliest = λ u x v y g. subst (λ (z : ℕ). z ≤ v) (same-at a t u k x) (e v y g);
+    earliest = λ u x v y g. let z = same-at a t u k x in let i = e v y g in omega arith;
   }
 
   -- a search that ended is right
@@ -212,6 +213,7 @@ module _ (h : Hours) (m n : ℕ) (a : Answer) where
         short = λ _. s;
         never = λ _ _. k;
         nowhere = λ _ t f. fits-long h n t f s;
+        answers = λ _ x. absurd (x (λ w g. let k = s w g in omega arith));
         later = λ u x. absurd (no-both a u 22 x k);
         fits = λ u x. absurd (no-both a u 22 x k);
         earliest = λ u x. absurd (no-both a u 22 x k);
@@ -225,6 +227,7 @@ module _ (h : Hours) (m n : ℕ) (a : Answer) where
     short = λ y. absurd (one-refusal a k y);
     never = λ p _. absurd (x p);
     nowhere = λ y. absurd (one-refusal a k y);
+    answers = λ p _. absurd (x p);
     later = λ u y. absurd (no-both a u 21 y k);
     fits = λ u y. absurd (no-both a u 21 y k);
     earliest = λ u y. absurd (no-both a u 21 y k);

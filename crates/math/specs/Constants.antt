@@ -1,7 +1,8 @@
 -- Where the constants of `sine_ease` come from: the f64 nearest to π, 400921FB54442D18, halved or multiplied in f64, then narrowed to f32. Assumes nothing.
 use mathlib.Core.Path.{_≡_, refl}
 use lib.Ieee.{Float, binary32, ofBits, toBits, mul, round}
-use Rattle.floats.specs.Arithmetic.{_×ᵈ_, f64, whole, halfᶠ}
+use Rattle.floats.specs.Arithmetic.{_×ᵈ_, whole, halfᶠ}
+use Rattle.floats.specs.Constants.{f64}
 use Rattle.floats.specs.Floats.{narrowed}
 use Rattle.math.specs.Curves.{π, π/2, 5ππ}
 

@@ -6,14 +6,14 @@ use lib.Dec.{ltb, leb}
 use lib.Ieee.{Float}
 use Rattle.floats.specs.Arithmetic.{_+ᵈ_, _-ᵈ_, _<ᶠ_, _≤ᶠ_, zeroᶠ}
 use Rattle.floats.specs.declared.SampleIndex.{SampleIndex}
-use Rattle.floats.specs.Floats.{index}
-use Rattle.floats.specs.IndexStep.{isFree}
+use Rattle.floats.specs.Floats.{index, isFree}
 use Rattle.event.specs.declared.Event.{Event}
 use Rattle.event.specs.declared.Placing.{Placing}
 use Rattle.event.specs.declared.Placing.the-variants.{Kept, Forced}
 use Rattle.event.specs.declared.Source.{Source}
 use Rattle.event.specs.Events.{withUnit}
-use Rattle.event.specs.Sources.{advancedBy, source-stays}
+use Rattle.event.specs.Sources.{advancedBy}
+use Rattle.event.specs.SourceStays.{source-stays}
 use Rattle.ledger.specs.BlockSamples.{Span, firstPlace, endPlace, fadeInPlace, fadeOutPlace, afterBlock}
 use Rattle.ledger.specs.Places.{rounded, firstPlacing, endPlacing, fadeInPlacing, fadeOutPlacing}
 use Rattle.mixing.specs.declared.Place.{Place}

@@ -5,7 +5,7 @@ ghost use lib.Dec.{leb};
 ghost use Prim.Native.Nat.{_-_, _≤_};
 ghost use lib.ListN.{length};
 ghost use Rattle.floats.specs.Arithmetic.{_<ᶠ_, _≤ᶠ_};
-ghost use Rattle.event.specs.Placings.{addAll};
+ghost use Rattle.event.specs.PlacingCounts.{addAll};
 ghost use Rattle.ledger.specs.TickSamples.{fadedIn, fadedOut, tickSample, afterTick};
 ghost use Rattle.event.specs.Sources.{nextSamples, advancedBy};
 ghost use Rattle.ledger.specs.BlockSamples.{phaseAt, phaseStep, runFadedIn, runFadedOut, gained, fadedRun, addAt, channelAfter, afterBlock};
@@ -461,7 +461,8 @@ fn count_fade_out(event: Event, span: Span, s: usize, places: Placings) -> Placi
     places
 }
 
-// The event's places, each one more of `places`: where it begins and ends, and, where it sounds, those of its fades.
+// The event's places, each one more of `places`: where it begins and ends, and, where it sounds, those of its fades. They are the places that
+// `process_event` takes: `counted-as-taken` of ledger/specs/TakenPlacesProof.antt.
 pub fn count_places(event: Event, span: Span, places: Placings) -> Placings
     ensures { λ r. ⌜ r ≡ addAll places (eventPlacings (asSpan span) event) ⌝ }
 {

@@ -1,1 +1,5 @@
 pub mod Theorem
+pub mod DeskOrder
+pub mod DeskOrderProof
+pub mod DeskTheorem
+pub mod CasesOfDesk

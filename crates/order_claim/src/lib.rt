@@ -1,1 +1,1 @@
-// Document 02, Paper 9, of the engine: where the order of mixing is without consequence. It is no code: the theorem stands in specs/.
+// Document 02, Paper 9, of the engine and of the desk: where the order of mixing is without consequence. It is no code: the theorems stand in specs/.

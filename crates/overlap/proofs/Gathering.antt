@@ -8,7 +8,7 @@ use native.Mathlib.Numerals.{add-one}
 use lib.ListN.{length, getD, take, length-append, length-take, List·getD-append}
 use lib.Seq.{take-suc, take-all, getD-take, getD-append-add}
 use Rattle.event.specs.declared.Event.{Event}
-use Rattle.event.specs.Events.{blank}
+use Rattle.event.specs.Blank.{blank}
 use Rattle.sequencer.specs.declared.Sequencer.{Sequencer}
 use Rattle.ready.specs.Sift.{rise}
 use Rattle.ready.specs.HeapOrder.{Heap-ordered}

@@ -11,7 +11,8 @@ use lib.Ieee.Compare.{differs-from-itself, nan-differs}
 use lib.ListN.{length, getD, take, length-take}
 use lib.Seq.{take-all, getD-take}
 use Rattle.event.specs.declared.Event.{Event}
-use Rattle.event.specs.Events.{earlier, blank}
+use Rattle.event.specs.Events.{earlier}
+use Rattle.event.specs.Blank.{blank}
 use Rattle.ledger.specs.Lists.{insert, insertAll}
 use Rattle.sequencer.specs.declared.Sequencer.{Sequencer}
 use Rattle.overlap.specs.declared.FirstWaiting.{FirstWaiting}

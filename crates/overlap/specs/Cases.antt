@@ -6,17 +6,28 @@ use mathlib.Core.List.{List, [], _∷_, _++_}
 use lib.IntN.{pos, negsuc}
 use lib.Ieee.{Float, nan, fin, lt, le, isNan}
 use lib.ListN.{replicate}
-use Rattle.floats.specs.Arithmetic.{zeroᶠ, oneᶠ, halfᶠ, +∞, -∞, whole}
+use Rattle.event.specs.declared.Event.{Event}
+use Rattle.event.specs.declared.Fade.the-variants.{Smooth}
+use Rattle.event.specs.declared.ReplayMode.the-variants.{All}
+use Rattle.event.specs.declared.Source.the-variants.{Held}
+use Rattle.event.specs.Events.{newEvent}
+use Rattle.floats.specs.Arithmetic.{zeroᶠ, oneᶠ, halfᶠ, -∞, whole}
+use Rattle.floats.specs.Constants.{+∞}
+use Rattle.floats.specs.Floats.{totalLess, sooner}
 use Rattle.ledger.specs.Calls.{Call, edit, absoluteEnd}
 use Rattle.ledger.specs.Ledger.{Ledger}
-use Rattle.ledger.specs.Lists.{insertAll, numbers}
+use Rattle.ledger.specs.Lists.{insert, insertAll, numbers}
 use Rattle.ledger.specs.Cases.{held1, one-tick}
 use Rattle.ledger.specs.CasesOfSlips.{ledgerOf}
+use Rattle.sequencer.specs.declared.Sequencer.{Sequencer}
+use Rattle.sequencer.specs.Parts.{withReady, withActive, withPast}
+use Rattle.sequencer.specs.Creation.{freshEngine}
 use Rattle.overlap.specs.declared.Found.{Found}
 use Rattle.overlap.specs.declared.Found.the-variants as found
 use Rattle.overlap.specs.declared.FirstWaiting.{FirstWaiting}
 use Rattle.overlap.specs.declared.FirstWaiting.the-variants as first
 use Rattle.overlap.specs.Stretch.{those, heldEvents, clipsOf, clipsAnswer, clipsListed, firstAnswer, firstIn}
+use Rattle.overlap.specs.Reading.{heldIn, firstRead}
 
 abbrev -0ᶠ : Float
 -0ᶠ = fin true 0 (pos 0)
@@ -96,7 +107,34 @@ firsts : (firstAt -∞ ≡ first.Number (record { 0 = 5 })) × (firstAt oneᶠ �
 unfolding five firstIn firstAnswer those le isNan whole
 firsts = (refl, refl, refl, refl, refl, refl, refl)
 
+-- "the first waiting event": one that sounds is none
+none-waits : firstIn -∞ (ledgerOf (clip zeroᶠ oneᶠ ∷ one-tick ∷ [])) ≡ first.Nothing
+unfolding ledgerOf firstIn firstAnswer those le isNan
+none-waits = refl
+
 -- "against .. a given time -0.0 equals 0.0": a start of -0.0 is at 0.0, and comes first
 zeros : firstIn zeroᶠ (ledgerOf (clip zeroᶠ oneᶠ ∷ clip -0ᶠ oneᶠ ∷ [])) ≡ first.Number (record { 0 = 2 })
 unfolding ledgerOf firstIn firstAnswer those le isNan
 zeros = refl
+
+-- ---- an engine: its arrays up to their counts. 5, 4 and 1 wait, as a heap has them; 2 sounds and 3 is finished. What is behind the counts is no longer held.
+abbrev event : (start end : Float) → (number : ℕ) → Event
+event start end k = newEvent start end zeroᶠ zeroᶠ Smooth (Held oneᶠ) oneᶠ k
+
+abbrev engine : Sequencer
+engine =
+    withPast
+    (withActive
+    (withReady (freshEngine 1 All 1) (event oneᶠ (whole 2) 5 ∷ event (whole 3) (whole 4) 4 ∷ event (whole 2) (whole 3) 1 ∷ event halfᶠ (whole 9) 6 ∷ []) 3)
+    (event zeroᶠ oneᶠ 2 ∷ event zeroᶠ (whole 9) 7 ∷ []) [] 1)
+    (event -0ᶠ oneᶠ 3 ∷ event zeroᶠ (whole 9) 8 ∷ []) 1
+
+engine-clips : numbers (clipsOf -∞ +∞ (heldIn engine)) ≡ 3 ∷ 2 ∷ 5 ∷ 1 ∷ 4 ∷ []
+unfolding freshEngine clipsOf those insert insertAll sooner totalLess lt whole
+engine-clips = refl
+
+-- of those that wait the first from 1.5 on is 1, which the array has behind 4
+engine-first : (firstRead (fin false 3 (negsuc 0)) engine ≡ first.Number (record { 0 = 1 })) × (firstRead -∞ engine ≡ first.Number (record { 0 = 5 }))
+    × (firstRead (whole 4) engine ≡ first.Nothing) × (firstRead nan engine ≡ first.Refused 17)
+unfolding freshEngine firstRead firstAnswer those insert insertAll sooner totalLess le isNan whole
+engine-first = (refl, refl, refl, refl)

@@ -7,7 +7,8 @@ use native.Mathlib.Decide.{ℕ-discrete}
 use native.Mathlib.Omega.{arith}
 use lib.Ieee.{Float, nan}
 use lib.ListN.{length, getD, set}
-use Rattle.floats.specs.Sooner.{sooner, sooner-asymmetric, not-sooner-transitive, sooner-total}
+use Rattle.floats.specs.Sooner.{sooner-asymmetric, not-sooner-transitive, sooner-total}
+use Rattle.floats.specs.Floats.{sooner}
 use Rattle.event.specs.declared.Event.{Event}
 use Rattle.event.specs.Events.{numberOf, earlier}
 use Rattle.ledger.specs.Lists.{insert, insertAll, numbers}

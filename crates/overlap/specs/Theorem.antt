@@ -30,12 +30,7 @@ use Rattle.overlap.specs.Stretch.{those, heldEvents, inStretch, inOrder,
 use Rattle.overlap.specs.Insertion.{those-perm}
 use Rattle.overlap.specs.Keys.{sorted-perm, sorted-stays, sorted-length, numbers-length}
 use Rattle.overlap.specs.Reading.{heldIn, firstRead}
-
--- the three calls on an engine are those on the ledger
-pub record Same (s : Sequencer) (l : Ledger) : Type 0 where
-  pub answer : (from to : Float) (out : List ℕ) → clipsAnswer from to out (heldIn s) ≡ clipsAnswer from to out (heldEvents l)
-  pub listed : (from to : Float) (out : List ℕ) → clipsListed from to out (heldIn s) ≡ clipsListed from to out (heldEvents l)
-  pub first : (time : Float) → firstRead time s ≡ firstIn time l
+use Rattle.overlap.specs.Claim.{Same}
 
 -- ---- the clips
 
@@ -69,10 +64,10 @@ those-fewer p (x ∷ l) = go (p x) (those-fewer p l)
     go true ih = omega arith
     go false ih = omega arith
 
-pub all-listed : (from to : Float) (l : Ledger) (out : List ℕ) → Lawful l
+takes-all : (from to : Float) (l : Ledger) (out : List ℕ) → Lawful l
     → written (numbers (clipsOf from to (heldEvents l))) out ≡ numbers (clipsOf from to (heldEvents l)) ++ drop (length (clipsOf from to (heldEvents l))) out
 unfolding clipsOf
-all-listed from to l out w = rw (take-all 256 ns few, numbers-length (clipsOf from to (heldEvents l)))
+takes-all from to l out w = rw (take-all 256 ns few, numbers-length (clipsOf from to (heldEvents l)))
   where
     chosen : List Event
     chosen = those (inStretch from to) (heldEvents l)
@@ -132,8 +127,13 @@ module _ (s : Sequencer) (l : Ledger) (v : SameState (viewOf s) l) (w : Lawful l
           ∙ sym (first-number (inOrder (those (startsFrom t) (l .waiting))))
           ∙ ap firstOf (sorted-stays (those (startsFrom t) (l .waiting)) (those-sorted (startsFrom t) (l .waiting) (w .sorted)))
 
+  all-listed : (from to : Float) (out : List ℕ) → sound from to out ≡ true
+      → clipsListed from to out (heldIn s) ≡ numbers (clipsOf from to (heldEvents l)) ++ drop (length (clipsOf from to (heldEvents l))) out
+  unfolding clipsListed
+  all-listed from to out h = listed-same s l v from to out ∙ rw h (takes-all from to l out w)
+
   pub same : Same s l
-  same = record { answer = answer-same s l v; listed = listed-same s l v; first = first-same }
+  same = record { answer = answer-same s l v; listed = listed-same s l v; all-listed = all-listed; first = first-same }
 
 -- after any list of calls from any creation, refused ones included
 pub reached : (channels : ℕ) (mode : ReplayMode) (first : ℕ) (cs : List Call) → first < 2 ^ 64 → AllLend (engine .lends) cs

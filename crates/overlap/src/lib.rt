@@ -3,7 +3,7 @@ ghost use mathlib.Core.Path.{_≡_};
 ghost use mathlib.Core.List.{map};
 ghost use Prim.Native.Nat.{_+_, _*_, _<_};
 ghost use lib.ListN.{length, getD};
-ghost use Rattle.floats.specs.Sooner.{sooner};
+ghost use Rattle.floats.specs.Floats.{sooner};
 ghost use Rattle.event.specs.Events.{numberOf};
 ghost use Rattle.ready.specs.Stands.{Stands};
 ghost use Rattle.overlap.specs.Stretch.{those, inStretch, clipsOf, written, clipsAnswer, clipsListed};

@@ -1,43 +1,17 @@
--- The three loops: clearing from the beginning, suffix maxima from the end, a run of samples. Assumes nothing.
+-- The two loops: suffix maxima from the end, and a run of samples.
 use mathlib.Core.Path.{_≡_, refl, sym, ap, _∙_, subst}
-use mathlib.Core.List.{List, [], _∷_, _++_, map, append-nil}
+use mathlib.Core.Bool.{true, false}
+use mathlib.Core.List.{List, [], _∷_, _++_, map}
 use Prim.Native.Nat.{ℕ, suc, _+_, _-_, max, _≤_, _<_}
 use native.Mathlib.Nat.{le-antisymm}
 use native.Mathlib.Numerals.{add-one}
 use native.Mathlib.Omega.{arith}
-use lib.ListN.{length, getD, set, take, drop, replicate, length-take, length-replicate, length-set, take-append-drop, drop-of-length-le, replicate-append-replicate}
+use lib.ListN.{length, getD, set, take, drop, length-take, length-set, take-append-drop, drop-of-length-le}
 use lib.Seq.{drop-cons, getD-take, length-take-le, take-suc, append-snoc, set-at, getD-at, drop-length}
 use lib.Ieee.{Float, nan}
 use Rattle.peak.specs.Peaks.{magnitude, greatest}
-use Rattle.peak.specs.Steps.{State, zeros, suffixMaxima, suffixMaximaTo, fed, fedAll}
-use Rattle.peak.specs.Turns.{length-fed}
-
-module _ (l₀ : List ℕ) where
-  -- the first i are cleared
-  pub record Clearing (i : ℕ) (l : List ℕ) : Type 0 where
-    pub within : i ≤ length l₀
-    pub long : length l ≡ length l₀
-    pub shape : l ≡ replicate i 0 ++ drop i l₀
-
-  pub clearing-start : Clearing 0 l₀
-  clearing-start = record { within = omega arith; long = refl; shape = refl }
-
-  pub clearing-turn : {i : ℕ} {l : List ℕ} → Clearing i l → i < length l → Clearing (i + 1) (set l i 0)
-  clearing-turn {i} {l} t h =
-      let y = getD l₀ i 0 in
-      let ys = drop (suc i) l₀ in
-      let s : l ≡ replicate i 0 ++ y ∷ ys = t .shape ∙ rw (drop-cons l₀ i 0 (omega (arith, t .long))) refl in
-      record {
-        within = omega (arith, t .long);
-        long = length-set l i 0 ∙ t .long;
-        shape = rw s (set-at (replicate i 0) y ys 0 i (length-replicate i 0)) ∙ sym (append-snoc (replicate i 0) 0 ys)
-            ∙ ap (λ (z : List ℕ). z ++ ys) (replicate-append-replicate i 1 0) ∙ rw (add-one i) refl;
-      }
-
-  pub clearing-done : {i : ℕ} {l : List ℕ} → Clearing i l → length l ≤ i → l ≡ zeros l₀
-  clearing-done {i} {l} t h =
-      let e : i ≡ length l₀ = le-antisymm (t .within) (omega (arith, t .long)) in
-      t .shape ∙ rw (e, drop-length, append-nil) refl
+use Rattle.peak.specs.Steps.{State, suffixMaxima, suffixMaximaTo, serves, advanced, fed, fedAll}
+use Rattle.peak.specs.Turns.{taken, left-alone, next}
 
 module _ (w : ℕ) (l₀ : List ℕ) where
   -- the places from i up to w have their maxima, `most` is the last one written
@@ -87,22 +61,32 @@ module _ (w : ℕ) (l₀ : List ℕ) where
   pub rising-done : {i most : ℕ} {l : List ℕ} → Rising i most l → i ≤ 0 → l ≡ suffixMaximaTo w l₀
   rising-done {i} {most} {l} t h = let e : i ≡ 0 = omega arith in t .shape ∙ rw e refl
 
--- what is fed and what is left give what the whole gives
+-- what is fed and what is left give what the whole gives; the row serves all the way
 module _ (s₀ : State) (xs : List Float) where
   pub record Feeding (i : ℕ) (s : State) : Type 0 where
     pub within : i ≤ length xs
     pub long : length (s .row) ≡ length (s₀ .row)
+    pub serving : serves (s .peak) (length (s .row)) ≡ true
     pub rest : fedAll s (map magnitude (drop i xs)) ≡ fedAll s₀ (map magnitude xs)
 
-  pub feeding-start : Feeding 0 s₀
-  feeding-start = record { within = omega arith; long = refl; rest = refl }
+  pub feeding-start : serves (s₀ .peak) (length (s₀ .row)) ≡ true → Feeding 0 s₀
+  feeding-start h = record { within = omega arith; long = refl; serving = h; rest = refl }
 
-  pub feeding-turn : {i : ℕ} {s : State} (t : State) → Feeding i s → i < length xs → t ≡ fed s (magnitude (getD xs i nan)) → Feeding (i + 1) t
-  feeding-turn {i} {s} t f h e = record {
-    within = omega arith;
-    long = ap (λ (z : State). length (z .row)) e ∙ length-fed s (magnitude (getD xs i nan)) ∙ f .long;
-    rest = rw (add-one, e) (rw (drop-cons xs i nan h) at (f .rest));
-  }
+  pub feeding-turn : {i : ℕ} {s : State} (t : State) → Feeding i s → i < length xs → t ≡ advanced s (magnitude (getD xs i nan)) → Feeding (i + 1) t
+  feeding-turn {i} {s} t f h e =
+      let m = magnitude (getD xs i nan) in
+      let n = next s m (f .serving) in
+      record {
+        within = omega arith;
+        long = ap (λ (z : State). length (z .row)) e ∙ n .long ∙ f .long;
+        serving = rw e (n .serving);
+        rest = rw (add-one, e, ← taken s m (f .serving)) (rw (drop-cons xs i nan h) at (f .rest));
+      }
 
   pub feeding-done : {i : ℕ} {s : State} → Feeding i s → length xs ≤ i → s ≡ fedAll s₀ (map magnitude xs)
   feeding-done {i} {s} f h = let e : i ≡ length xs = le-antisymm (f .within) h in rw (e, drop-length) at (f .rest)
+
+-- a run that is refused changes nothing
+pub none-fed : (s : State) (ms : List ℕ) → serves (s .peak) (length (s .row)) ≡ false → s ≡ fedAll s ms
+none-fed s [] h = refl
+none-fed s (m ∷ ms) h = rw (left-alone s m h) (none-fed s ms h)

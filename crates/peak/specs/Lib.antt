@@ -4,3 +4,4 @@ pub mod Claim
 pub mod Turns
 pub mod Theorem
 pub mod Magnitudes
+pub mod Cases

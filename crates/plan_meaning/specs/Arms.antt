@@ -16,9 +16,10 @@ use Rattle.event.specs.declared.EventId.{EventId}
 use Rattle.event.specs.declared.StoredEdit.{StoredEdit}
 use Rattle.event.specs.declared.ReplayMode.the-variants.{None}
 use Rattle.event.specs.declared.Unit.{Unit as SourceUnit}
-use Rattle.event.specs.Events.{blank, earlier, editedBy, withUnit}
-use Rattle.event.specs.Runs.{steps}
-use Rattle.event.specs.Sources.{advanced, source-stays}
+use Rattle.event.specs.Events.{earlier, editedBy, withUnit}
+use Rattle.event.specs.Blank.{blank}
+use Rattle.event.specs.Sources.{steps, advanced}
+use Rattle.event.specs.SourceStays.{source-stays}
 use Rattle.floats.specs.Arithmetic.{_<ᶠ_, zeroᶠ, -∞}
 use Rattle.ledger.specs.TickSamples.{afterTick}
 use Rattle.ledger.specs.BlockSamples.{afterBlock}

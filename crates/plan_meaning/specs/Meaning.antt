@@ -17,7 +17,8 @@ use Rattle.event.specs.declared.MixOrder.the-variants.{Forward}
 use Rattle.event.specs.declared.EventId.{EventId}
 use Rattle.event.specs.declared.ReplayMode.{ReplayMode}
 use Rattle.event.specs.declared.ReplayMode.the-variants.{All, None}
-use Rattle.event.specs.Events.{blank, newEvent}
+use Rattle.event.specs.Events.{newEvent}
+use Rattle.event.specs.Blank.{blank}
 use Rattle.floats.specs.Arithmetic.{_+ᵈ_, _×ᵈ_, _<ᶠ_, _≤ᶠ_, _÷ᵈ_, _+ˢ_, zeroᶠ, oneᶠ, -∞, whole}
 use Rattle.ledger.specs.Calls.{absolute, relative, byDuration}
 use Rattle.ledger.specs.Refusals.{within, withinEnd, finiteSource, statedEnd, editEnd}
@@ -37,7 +38,8 @@ use Rattle.sequencer.specs.Parts.{withReady, withActive, withPast, withEdits, w
 use Rattle.sequencer.specs.Moves.{pushedReady, pushedActive, pushedEvent, readyToActive, activeToPast, releasedPast, advanced, heldAt, toReady, allToReady}
 use Rattle.sequencer.specs.Edits.{indexOf, changedBy, changed, amended, edits}
 use Rattle.sequencer.specs.Resets.{rewinds, rewoundReady, resetBy, resets, reRated, rates}
-use Rattle.sequencer.specs.Answers.{accepts, renders, refuses}
+use Rattle.sequencer.specs.Answers.{accepts}
+use Rattle.sequencer.specs.Outcomes.{renders, refuses}
 use Rattle.sequencer.specs.Pushes.{admitted, pushesTo, pushes}
 use Rattle.sequencer.specs.Rendering.{Passed, passes, tickEnd, addTick, tickPass, renderedTick, renderedTickOut, ticks, tickOuts, blockEnd, spanOf, blockPass, renderedBlock, renderedPlaces, renderedBlockOut, blocks, blockOuts}
 use Rattle.tape.specs.declared.reader.PushRecord.{PushRecord}

@@ -15,7 +15,7 @@ use lib.Ieee.Fits.{down-pos}
 use lib.Ieee.Scale.{round-same}
 use Rattle.event.specs.declared.Fade.the-variants.{Smooth}
 use Rattle.event.specs.Fades.{curve}
-use Rattle.event.specs.Runs.{steps}
+use Rattle.event.specs.Sources.{steps}
 use Rattle.floats.specs.Arithmetic.{_+ˢ_, _×ˢ_, f32}
 use Rattle.ledger.specs.BlockSamples.{fadedAll, faded}
 use Rattle.math.specs.Curves.{smooth}

@@ -1,2 +1,3 @@
 pub mod Preview
 pub mod FadeIn
+pub mod Cases

@@ -5,8 +5,7 @@ use Prim.Native.Nat.{ℕ}
 use lib.Ieee.{Float, fin, lt, eq, isNan}
 use lib.IntN.{pos}
 use Rattle.floats.specs.Arithmetic.{zeroᶠ, oneᶠ}
-use Rattle.floats.specs.Floats.{totalLess, negative}
-use Rattle.floats.specs.Sooner.{sooner}
+use Rattle.floats.specs.Floats.{totalLess, negative, sooner}
 use Rattle.event.specs.declared.Event.{Event}
 use Rattle.event.specs.Events.{numberOf}
 use Rattle.event.specs.declared.Fade.the-variants.{Power}

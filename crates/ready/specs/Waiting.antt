@@ -7,7 +7,8 @@ use Rattle.floats.specs.Arithmetic.{zeroᶠ}
 use Rattle.event.specs.declared.Event.{Event}
 use Rattle.event.specs.declared.Fade.the-variants.{Power}
 use Rattle.event.specs.declared.Source.the-variants.{Held}
-use Rattle.event.specs.Events.{earlier, blank}
+use Rattle.event.specs.Events.{earlier}
+use Rattle.event.specs.Blank.{blank}
 use Rattle.ready.specs.declared.Ready.{Ready}
 use Rattle.ready.specs.Sift.{rise, sink}
 

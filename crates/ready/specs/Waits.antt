@@ -8,7 +8,8 @@ use lib.ListN.{getD, length, take, length-map, List·getD-map}
 use lib.Seq.{length-take-le, getD-take}
 use borrow.Author.Tests.{lt-ltb, le-leb}
 use Rattle.event.specs.declared.Event.{Event}
-use Rattle.event.specs.Events.{earlier, blank}
+use Rattle.event.specs.Events.{earlier}
+use Rattle.event.specs.Blank.{blank}
 use Rattle.ledger.specs.Lists.{insert}
 use Rattle.ready.specs.declared.Ready.{Ready}
 use Rattle.event.specs.Runs.{getD-in}

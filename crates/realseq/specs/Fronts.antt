@@ -10,7 +10,8 @@ use Rattle.event.specs.declared.Fade.{Fade}
 use Rattle.event.specs.declared.Source.{Source}
 use Rattle.floats.specs.Arithmetic.{_-ᵈ_}
 use Rattle.event.specs.Events.{newEvent}
-use Rattle.ledger.specs.Calls.{PushKind, isRelative, EditKind, endRelative}
+use Rattle.ledger.specs.Calls.{PushKind, EditKind}
+use Rattle.desk.specs.Relative.{isRelative, endRelative}
 use Rattle.ledger.specs.Refusals.{statedEnd}
 use Rattle.refusals.specs.Refusals.{pushRefusal, editLimits}
 use Rattle.sequencer.specs.Parts.{withNext}

@@ -8,7 +8,7 @@ use Rattle.event.specs.declared.Edit.{Edit}
 use Rattle.event.specs.declared.Event.{Event}
 use Rattle.event.specs.declared.ReplayMode.{ReplayMode}
 use Rattle.event.specs.declared.ReplayMode.the-variants.{All, None}
-use Rattle.event.specs.Events.{blank}
+use Rattle.event.specs.Blank.{blank}
 use Rattle.floats.specs.Arithmetic.{_+ᵈ_}
 use Rattle.ready.specs.declared.Ready.{Ready}
 use Rattle.ready.specs.Waiting as Waiting

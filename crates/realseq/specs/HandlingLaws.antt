@@ -7,7 +7,7 @@ use Prim.Native.Nat.{ℕ, zero, suc, _-_, _<_, _≤_}
 use native.Mathlib.Omega.{arith}
 use lib.ListN.{getD}
 use Rattle.event.specs.declared.Event.{Event}
-use Rattle.event.specs.Events.{blank}
+use Rattle.event.specs.Blank.{blank}
 use Rattle.ready.specs.declared.Ready.{Ready}
 use Rattle.ready.specs.Waiting as Waiting
 use Rattle.sequencer.specs.declared.Sequencer.{Sequencer}

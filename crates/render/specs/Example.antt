@@ -3,7 +3,7 @@ use mathlib.Core.Path.{_≡_, refl}
 use mathlib.Core.List.{List, [], _∷_, _++_}
 use Prim.Native.Nat.{ℕ}
 use lib.ListN.{take, drop}
-use Rattle.ledger.specs.Steps.{computes}
+use Rattle.ledger.specs.Computes.{computes}
 use Rattle.tape.specs.Example.{example}
 use Rattle.tape.specs.Fields.{field, fromLittleEndian}
 use Rattle.tape.specs.Tape.{recordOf, unknown, pushKind, sizeOf, callOf, pushOf, sourceOf}

@@ -4,3 +4,4 @@ pub mod Fuel
 pub mod Resumes
 pub mod Reasons
 pub mod Moved
+pub mod Onward

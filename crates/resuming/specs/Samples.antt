@@ -10,7 +10,7 @@ use lib.ListN.{length, getD, set, replicate, length-set, length-replicate}
 use Rattle.event.specs.declared.Event.{Event}
 use Rattle.event.specs.declared.MixOrder.{MixOrder}
 use Rattle.event.specs.declared.MixOrder.the-variants.{Forward}
-use Rattle.event.specs.Events.{blank}
+use Rattle.event.specs.Blank.{blank}
 use Rattle.floats.specs.Arithmetic.{_+ˢ_, zeroᶠ}
 use Rattle.ledger.specs.BlockSamples.{channelAfter}
 use Rattle.ledger.specs.FormerMethod.{length-channel}

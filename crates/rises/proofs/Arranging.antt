@@ -51,11 +51,10 @@ one-done n k total s p r h hp hr a = subst (λ (r : Pushed). Arranging n (r .seq
 pub rise-fits : (s : Sequencer) (p : PushRecord) (r : Pushed) → r ≡ pushedBy s (absolute, p) → r .rise ≤ 256
 rise-fits s p r h = subst (λ (r : Pushed). r .rise ≤ 256) (sym h) (rise-few s (absolute, p))
 
-pub all-done : (n k total m : ℕ) (s : Sequencer) → n ≤ k → n ≡ m → Arranging n s total k → total ≡ totalRise freshOne (arrangement m)
+pub all-done : (n k total : ℕ) (s : Sequencer) → n ≤ k → Arranging n s total k → total ≡ totalRise freshOne (arrangement n)
 unfolding totalRise pushesFrom
-all-done n k total m s h e a =
+all-done n k total s h a =
     let q : n - k ≡ 0 = omega arith in
     let z : left n k s ≡ 0 = ap (λ (f : ℕ). totalRise s (pushesFrom n (k + 1) f)) q in
     let g = a .gives in
-    let r : total ≡ totalRise freshOne (arrangement n) = omega (arith, g, z) in
-    r ∙ ap (λ (m : ℕ). totalRise freshOne (arrangement m)) e
+    omega (arith, g, z)

@@ -1,5 +1,5 @@
 -- The loop over the tape's records: what the buffer has, and what is left. Assumes nothing.
-use mathlib.Core.Bool.{false, cond}
+use mathlib.Core.Bool.{true, false, cond}
 use mathlib.Core.Path.{_≡_, refl, sym, ap, _∙_, subst}
 use mathlib.Core.List.{List, [], _∷_, _++_, append-assoc, append-nil}
 use Prim.Native.Nat.{ℕ, suc, _+_, _-_, _*_, _≤_, _<_}
@@ -18,7 +18,10 @@ use Rattle.tape_writer.specs.Writing.{bytesOf, undefined, undefinedBy, laid, bu
 use Rattle.tape_writer.specs.Claim.{argumentsOf}
 use Rattle.tape_writer.specs.Sizes.{long-as, accepted, enough-rest}
 use Rattle.rises.specs.Arrangement.{kthPush}
-use Rattle.rises.specs.Tapes.{creationBytes, kthBytes, recordsFrom, tapeOf, sizeOfTape, tapeLaid, bytesLaid}
+use Rattle.rises.specs.declared.Laid.{Laid}
+use Rattle.rises.specs.declared.Laid.the-variants as laid
+use Rattle.rises.specs.Tapes.{creationBytes, kthBytes, recordsFrom, tapeOf, sizeOfTape}
+use Rattle.rises.specs.Answers.{isSize, layAnswer, tapeLaid}
 
 -- ---- a record behind those that are done
 
@@ -132,9 +135,9 @@ module _ (n : ℕ) (buf₀ : List ℕ) (room : sizeOfTape n ≤ length buf₀) (
           ∙ sym (ap (λ (f : ℕ). l .done ++ recordsFrom n (k + 1) f) m) ∙ l .gives;
     }
 
-    pub all-laid : n ≤ k → (m : ℕ) → n ≡ m → (at ≡ bytesLaid m buf₀) × (after ≡ tapeLaid m buf₀)
-    unfolding recordsFrom bytesLaid tapeLaid
-    all-laid h m e = subst (λ (m : ℕ). (at ≡ bytesLaid m buf₀) × (after ≡ tapeLaid m buf₀)) e (answer, lent)
+    pub all-laid : n ≤ k → isSize n ≡ true → (laid.Bytes at ≡ layAnswer n buf₀) × (after ≡ tapeLaid n buf₀)
+    unfolding recordsFrom layAnswer tapeLaid
+    all-laid h w = (answer, lent)
       where
         fits : ltb (length buf₀) (sizeOfTape n) ≡ false
         fits = le-ltb (length buf₀) (sizeOfTape n) room
@@ -147,12 +150,15 @@ module _ (n : ℕ) (buf₀ : List ℕ) (room : sizeOfTape n ≤ length buf₀) (
             let q : n - k ≡ 0 = omega (arith, h) in
             sym (append-nil (l .done)) ∙ sym (ap (λ (f : ℕ). l .done ++ recordsFrom n (k + 1) f) q) ∙ l .gives
 
-        answer : at ≡ bytesLaid n buf₀
-        answer = rw fits size
+        answer : laid.Bytes at ≡ layAnswer n buf₀
+        answer = rw (w, fits) (ap laid.Bytes size)
 
         lent : after ≡ tapeLaid n buf₀
-        lent = rw fits (l .front ∙ ap (λ (d : List ℕ). d ++ drop at buf) whole ∙ ap (λ (m : ℕ). tapeOf n ++ drop m buf) size ∙ ap (λ (r : List ℕ). tapeOf n ++ r) (unchanged (43 * n)))
+        lent =
+            rw (w, fits)
+            (l .front ∙ ap (λ (d : List ℕ). d ++ drop at buf) whole ∙ ap (λ (m : ℕ). tapeOf n ++ drop m buf) size
+            ∙ ap (λ (r : List ℕ). tapeOf n ++ r) (unchanged (43 * n)))
 
-pub too-short : (n m : ℕ) (buf : List ℕ) → length buf < sizeOfTape n → n ≡ m → (0 ≡ bytesLaid m buf) × (buf ≡ tapeLaid m buf)
-unfolding bytesLaid tapeLaid
-too-short n m buf h e = subst (λ (m : ℕ). (0 ≡ bytesLaid m buf) × (buf ≡ tapeLaid m buf)) e (rw (lt-ltb (length buf) (sizeOfTape n) h), rw (lt-ltb (length buf) (sizeOfTape n) h))
+pub too-short : (n : ℕ) (buf : List ℕ) → length buf < sizeOfTape n → isSize n ≡ true → (laid.Refused 19 ≡ layAnswer n buf) × (buf ≡ tapeLaid n buf)
+unfolding layAnswer tapeLaid
+too-short n buf h w = (rw (w, lt-ltb (length buf) (sizeOfTape n) h), rw (w, lt-ltb (length buf) (sizeOfTape n) h))

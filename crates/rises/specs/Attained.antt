@@ -10,10 +10,10 @@ use lib.ListN.{getD, length}
 use borrow.Author.Tests.{lt-ltb, lt-leb, ne-eqb, eq-eqb}
 use Rattle.event.specs.declared.Event.{Event}
 use Rattle.event.specs.declared.Source.the-variants.{Held}
-use Rattle.event.specs.Events.{earlier, blank}
+use Rattle.event.specs.Events.{earlier}
+use Rattle.event.specs.Blank.{blank}
 use Rattle.floats.specs.Arithmetic.{_-ᵈ_, zeroᶠ, oneᶠ, -∞, whole}
-use Rattle.floats.specs.Floats.{totalLess}
-use Rattle.floats.specs.Sooner.{sooner}
+use Rattle.floats.specs.Floats.{totalLess, sooner}
 use Rattle.ledger.specs.Calls.{absolute}
 use Rattle.ledger.specs.Refusals.{within, withinEnd, statedEnd}
 use Rattle.ledger.specs.Steps.{pushedTime}

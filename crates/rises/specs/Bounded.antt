@@ -11,7 +11,8 @@ use Rattle.event.specs.declared.ReplayMode.{ReplayMode}
 use Rattle.sequencer.specs.declared.Sequencer.{Sequencer}
 use Rattle.sequencer.specs.declared.Pushed.{Pushed}
 use Rattle.event.specs.declared.ReplayMode.the-variants.{All}
-use Rattle.sequencer.specs.Answers.{refuses, accepts}
+use Rattle.sequencer.specs.Answers.{accepts}
+use Rattle.sequencer.specs.Outcomes.{refuses}
 use Rattle.sequencer.specs.Creation.{created, freshEngine, refusesCreation}
 use Rattle.sequencer.specs.Moves.{pushedEvent}
 use Rattle.sequencer.specs.Pushes.{admitted}

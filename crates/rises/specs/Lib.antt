@@ -8,4 +8,7 @@ pub mod Arrangement
 pub mod Attained
 pub mod Words
 pub mod Tapes
+pub mod Answers
+pub mod Records
+pub mod TapeReads
 pub mod Cases

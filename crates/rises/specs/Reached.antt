@@ -13,7 +13,8 @@ use borrow.Author.Tests.{lt-ltb, leb-false, eqb-true}
 use Rattle.event.specs.declared.Event.{Event}
 use Rattle.event.specs.declared.ReplayMode.{ReplayMode}
 use Rattle.event.specs.declared.Source.{Source}
-use Rattle.event.specs.Events.{earlier, blank}
+use Rattle.event.specs.Events.{earlier}
+use Rattle.event.specs.Blank.{blank}
 use Rattle.ready.specs.Sorted.{earlier-order}
 use Rattle.ready.specs.HeapOrder.{Heap-ordered}
 use Rattle.refusals.specs.Refusals.{pushRefusal}
@@ -23,12 +24,12 @@ use Rattle.ledger.specs.Claim.{AllLend, ledgerAfter}
 use Rattle.ledger.specs.ClaimByRelation as ByRelation
 use Rattle.sequencer.specs.declared.Sequencer.{Sequencer}
 use Rattle.sequencer.specs.declared.Pushed.{Pushed}
-use Rattle.sequencer.specs.Answers.{refuses}
+use Rattle.sequencer.specs.Outcomes.{refuses}
 use Rattle.sequencer.specs.Pushes.{admitted}
 use Rattle.sequencer.specs.Rises.{riseReady, riseOf, withRise}
 use Rattle.claim.specs.Related.{Related}
 use Rattle.claim.specs.Creating.{related-creation}
-use Rattle.claim.specs.View.{shows}
+use Rattle.claim.specs.Shows.{shows}
 use Rattle.claim.specs.EngineCalls.{engine}
 use Rattle.claim.specs.Steps.{keep}
 use Rattle.claim.specs.Theorem.{after}

@@ -8,7 +8,8 @@ use lib.Dec.{ltb, eqb}
 use lib.ListN.{set}
 use lib.Ieee.{lt}
 use Rattle.event.specs.declared.Event.{Event}
-use Rattle.event.specs.Events.{earlier, blank, newEvent}
+use Rattle.event.specs.Events.{earlier, newEvent}
+use Rattle.event.specs.Blank.{blank}
 use Rattle.floats.specs.Arithmetic.{_-ᵈ_}
 use Rattle.ledger.specs.Refusals.{statedEnd}
 use Rattle.ledger.specs.Steps.{pushedTime}
@@ -17,7 +18,7 @@ use Rattle.ready.specs.Waiting.{pushed}
 use Rattle.refusals.specs.Refusals.{pushRefusal}
 use Rattle.sequencer.specs.declared.Sequencer.{Sequencer}
 use Rattle.sequencer.specs.declared.Pushed.{Pushed}
-use Rattle.sequencer.specs.Answers.{refuses}
+use Rattle.sequencer.specs.Outcomes.{refuses}
 use Rattle.sequencer.specs.Parts.{withActive}
 use Rattle.sequencer.specs.Moves.{pushedReady, pushedActive, pushedEvent}
 use Rattle.sequencer.specs.Pushes.{admitted, pushesTo, pushes}

@@ -1,9 +1,6 @@
 -- Document 02, Paper 13: the arrangement as a tape, its records' bytes by the writer of Paper 6.
-use mathlib.Core.Bool.{cond}
 use mathlib.Core.List.{List, [], _∷_, _++_}
 use Prim.Native.Nat.{ℕ, zero, suc, _+_, _*_}
-use lib.Dec.{ltb}
-use lib.ListN.{length, drop}
 use Rattle.event.specs.declared.ReplayMode.the-variants.{All}
 use Rattle.tape.specs.declared.reader.Call.{Call}
 use Rattle.tape.specs.declared.reader.Call.the-variants.{Create, Push}
@@ -32,11 +29,3 @@ tapeOf n = creationBytes ++ recordsFrom n 1 n
 -- 11 bytes, and 43 for each push
 abbrev pub sizeOfTape : (n : ℕ) → ℕ
 sizeOfTape n = 11 + 43 * n
-
--- over the front of a lent buffer; one that is too short stays as it is, and the answer is 0
-unfoldable pub tapeLaid : (n : ℕ) → (buf : List ℕ) → List ℕ
-unfolding tapeOf
-tapeLaid n buf = cond (ltb (length buf) (sizeOfTape n)) buf (tapeOf n ++ drop (sizeOfTape n) buf)
-
-unfoldable pub bytesLaid : (n : ℕ) → (buf : List ℕ) → ℕ
-bytesLaid n buf = cond (ltb (length buf) (sizeOfTape n)) 0 (sizeOfTape n)

@@ -4,7 +4,8 @@ use mathlib.Core.List.{List, [], _∷_}
 use Prim.Native.Nat.{ℕ, zero, suc, _+_}
 use lib.Ieee.{lt}
 use Rattle.event.specs.declared.Event.{Event}
-use Rattle.event.specs.Events.{earlier, blank}
+use Rattle.event.specs.Events.{earlier}
+use Rattle.event.specs.Blank.{blank}
 use Rattle.ledger.specs.Calls.{PushKind}
 use Rattle.tape.specs.declared.reader.PushRecord.{PushRecord}
 use Rattle.sequencer.specs.declared.Sequencer.{Sequencer}

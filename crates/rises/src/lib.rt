@@ -1,21 +1,33 @@
-// Document 02, Paper 13: the arrangement of n pushes that moves most events inside the waiting heap, as an argument's word, a tape and two figures. An n above 256 counts as 256.
+// Document 02, Paper 13: the arrangement of n pushes that moves most events inside the waiting heap, as an argument's word, a tape and two figures.
+// An n that is not from 1 to 256 is refused as 23.
 ghost use mathlib.Core.Path.{_≡_};
-ghost use Prim.Native.Nat.{_≤_, min};
+ghost use Prim.Native.Nat.{_≤_};
 ghost use Rattle.rises.specs.Way.{floorLog2};
 ghost use Rattle.ledger.specs.Calls.{absolute};
-ghost use Rattle.rises.specs.Totals.{bound, totalRise, pushedBy};
-ghost use Rattle.rises.specs.Arrangement.{freshOne, kthPush, arrangement};
+ghost use Rattle.rises.specs.Totals.{pushedBy};
+ghost use Rattle.rises.specs.Arrangement.{kthPush};
 ghost use Rattle.rises.specs.Words.{countOf};
-ghost use Rattle.rises.specs.Tapes.{tapeLaid, bytesLaid};
+ghost use Rattle.rises.specs.Answers.{isSize, greatestTotal, arrangedTotal, layAnswer, tapeLaid};
 use event::Fade;
 use event::ReplayMode;
 use event::Source;
-use runs::least;
 use sequencer::Pushed;
 use sequencer::Sequencer;
 use tape::reader::Call;
 use tape::reader::PushRecord;
 use tape_writer::calls::arguments_of;
+
+// How many levels n pushes rise in all, or a refusal: 23.
+pub enum Total {
+    Levels(usize),
+    Refused(u64),
+}
+
+// The tape's length in bytes, or a refusal: 23, or 19 where the buffer is shorter than the tape.
+pub enum Laid {
+    Bytes(usize),
+    Refused(u64),
+}
 
 // n, where the word writes one from 1 to 256 in decimal digits, with no leading zero; else 0.
 pub fn count_of(word: &[u8]) -> usize
@@ -46,6 +58,15 @@ pub fn count_of(word: &[u8]) -> usize
     value
 }
 
+fn is_size(n: usize) -> bool
+    ensures { λ r. ⌜ r ≡ isSize n ⌝ }
+{
+    if n == 0 {
+        return false;
+    }
+    n <= 256
+}
+
 // ---- the two figures
 
 fn floor_log2(k: usize) -> usize
@@ -60,18 +81,20 @@ fn floor_log2(k: usize) -> usize
     n
 }
 
-// The sum of floor(log2 k) over k = 1 to n.
-pub fn greatest_total(n: usize) -> usize
-    ensures { λ r. ⌜ r ≡ bound (min n 256) ⌝ }
+// The sum of floor(log2 k) over k = 1 to n: what the rises of n pushes add up to at most.
+pub fn greatest_total(n: usize) -> Total
+    ensures { λ r. ⌜ r ≡ greatestTotal n ⌝ }
 {
-    let top = least(n, 256);
+    if !is_size(n) {
+        return Total::Refused(23);
+    }
     let mut total: usize = 0;
     let mut k: usize = 0;
-    while k < top {
+    while k < n {
         k = k + 1;
         total = total + floor_log2(k);
     }
-    total
+    Total::Levels(total)
 }
 
 // The k-th push of n.
@@ -108,34 +131,38 @@ fn push_record(s: Sequencer, p: PushRecord) -> Pushed
     )
 }
 
-// What the rises of the n pushes add up to, by the engine's own pushes.
-pub fn arranged_total(n: usize) -> usize
-    ensures { λ r. ⌜ r ≡ totalRise freshOne (arrangement (min n 256)) ⌝ }
+// What the rises of the arrangement's n pushes add up to, by the engine's own pushes.
+pub fn arranged_total(n: usize) -> Total
+    ensures { λ r. ⌜ r ≡ arrangedTotal n ⌝ }
 {
-    let top = least(n, 256);
+    if !is_size(n) {
+        return Total::Refused(23);
+    }
     let made = Sequencer::new(1, ReplayMode::All, 1);
     let mut s = made.sequencer;
     let mut total: usize = 0;
     let mut k: usize = 0;
-    while k < top {
+    while k < n {
         k = k + 1;
-        let pushed = push_record(s, kth_push(top, k));
+        let pushed = push_record(s, kth_push(n, k));
         total = total + pushed.rise;
         s = pushed.sequencer;
     }
-    total
+    Total::Levels(total)
 }
 
 // ---- the tape
 
-// The tape goes to the front of the buffer, and its length is the answer. A buffer that is too short stays as it is, and the answer is 0.
-pub fn lay(n: usize, buf: &mut [u8]) -> usize
-    ensures answer { λ r. ⌜ r ≡ bytesLaid (min n 256) (now (buf .entry)) ⌝ }
-    ensures lent { λ _. ⌜ now (buf .exit) ≡ tapeLaid (min n 256) (now (buf .entry)) ⌝ }
+// The tape of n pushes goes to the front of the buffer. A refused call, 23 before 19, leaves the buffer unchanged.
+pub fn lay(n: usize, buf: &mut [u8]) -> Laid
+    ensures answer { λ r. ⌜ r ≡ layAnswer n (now (buf .entry)) ⌝ }
+    ensures lent { λ _. ⌜ now (buf .exit) ≡ tapeLaid n (now (buf .entry)) ⌝ }
 {
-    let top = least(n, 256);
-    if buf.len() < 11 + 43 * top {
-        return 0;
+    if !is_size(n) {
+        return Laid::Refused(23);
+    }
+    if buf.len() < 11 + 43 * n {
+        return Laid::Refused(19);
     }
     let creation = Call::Create {
         channels: 1,
@@ -145,11 +172,11 @@ pub fn lay(n: usize, buf: &mut [u8]) -> usize
     tape_writer::write(arguments_of(0, creation), buf, 0);
     let mut at: usize = 11;
     let mut k: usize = 0;
-    while k < top {
+    while k < n {
         k = k + 1;
-        let push = Call::Push(kth_push(top, k));
+        let push = Call::Push(kth_push(n, k));
         tape_writer::write(arguments_of(1, push), buf, at);
         at = at + 43;
     }
-    at
+    Laid::Bytes(at)
 }

@@ -7,7 +7,7 @@ use native.Mathlib.Omega.{arith}
 use lib.Ieee.{Float, nan}
 use lib.ListN.{length, getD, take, drop, replicate}
 use lib.Seq.{drop-cons}
-use Rattle.event.specs.Runs.{made}
+use Rattle.event.specs.Sources.{made}
 use Rattle.floats.specs.Arithmetic.{_+ˢ_, _×ˢ_}
 use Rattle.runs.specs.Walk.{walk, zipped}
 use Rattle.runs.specs.Samples.{chain, added}

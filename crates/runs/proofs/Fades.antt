@@ -7,7 +7,7 @@ use lib.Ieee.{Float}
 use lib.ListN.{length}
 use Rattle.event.specs.declared.Fade.{Fade}
 use Rattle.event.specs.Fades.{curve}
-use Rattle.event.specs.Runs.{made}
+use Rattle.event.specs.Sources.{made}
 use Rattle.floats.specs.Arithmetic.{_+ˢ_, _×ˢ_}
 use Rattle.ledger.specs.BlockSamples.{fadedAll}
 use Rattle.runs.specs.Walk.{walk, zipped}

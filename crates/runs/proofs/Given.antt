@@ -13,8 +13,7 @@ use lib.Seq.{drop-cons}
 use Rattle.event.specs.declared.Unit.{Unit}
 use Rattle.event.specs.declared.Source.{Source}
 use Rattle.event.specs.declared.Source.the-variants.{Held, Ramp, Clip}
-use Rattle.event.specs.Runs.{made, steps}
-use Rattle.event.specs.Sources.{sampleOf, advanced, nextSamples, advancedBy}
+use Rattle.event.specs.Sources.{made, steps, sampleOf, advanced, nextSamples, advancedBy}
 use Rattle.floats.specs.Arithmetic.{_+ˢ_, zeroᶠ}
 use Rattle.runs.specs.Samples.{chain, clipHas, clipRun}
 

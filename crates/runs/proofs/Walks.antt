@@ -8,7 +8,7 @@ use native.Mathlib.Numerals.{add-one}
 use native.Mathlib.Omega.{arith}
 use lib.ListN.{length, getD, take, drop, replicate, drop-of-length-le, length-drop}
 use lib.Seq.{take-length, drop-length, take-all, drop-cons, take-at, drop-at}
-use Rattle.event.specs.Runs.{made, steps}
+use Rattle.event.specs.Sources.{made, steps}
 use Rattle.runs.specs.Walk.{walk, ends, zipped, front}
 
 -- ---- a walk that looks at no element makes as many as there are

@@ -7,7 +7,7 @@ use lib.ListN as List
 use lib.ListN.{take, drop, replicate}
 use Rattle.event.specs.declared.Fade.{Fade}
 use Rattle.event.specs.Fades.{curve}
-use Rattle.event.specs.Runs.{made}
+use Rattle.event.specs.Sources.{made}
 use Rattle.floats.specs.Arithmetic.{_+ˢ_, _-ˢ_, _×ˢ_, zeroᶠ, oneᶠ}
 use Rattle.ledger.specs.BlockSamples.{gained}
 use Rattle.runs.specs.declared.ClipPart.{ClipPart}

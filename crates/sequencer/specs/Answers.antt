@@ -1,7 +1,4 @@
 -- Document 01's numbers and values for the cases of `Answer`. Every definition of an outcome names its answer by `said`, and the claim reads it back by `answerOf`.
-use Prim.Native.Nat.{ℕ}
-use mathlib.Core.Path.{_≡_, refl}
-use Rattle.event.specs.declared.Placings.{Placings}
 use Rattle.ledger.specs.Calls as Calls
 use Rattle.ledger.specs.Calls.{number, applied, past, stored, done, rendered, refused}
 use Rattle.sequencer.specs.declared.Sequencer.{Sequencer}
@@ -27,20 +24,5 @@ answerOf Done = done
 answerOf (Rendered c) = rendered c
 answerOf (Refused k) = refused k
 
-pub read-back : (a : Calls.Answer) → answerOf (said a) ≡ a
-read-back (number k) = refl
-read-back applied = refl
-read-back past = refl
-read-back stored = refl
-read-back done = refl
-read-back (rendered c) = refl
-read-back (refused k) = refl
-
 abbrev pub accepts : Sequencer → Outcome
 accepts s = record { sequencer = s; answer = said done }
-
-abbrev pub renders : Sequencer → Placings → Outcome
-renders s c = record { sequencer = s; answer = said (rendered c) }
-
-abbrev pub refuses : Sequencer → (number : ℕ) → Outcome
-refuses s k = record { sequencer = s; answer = said (refused k) }

@@ -11,7 +11,8 @@ use Rattle.lists.specs.Edits as Edits
 use Rattle.floats.specs.Arithmetic.{_÷ᵈ_, zeroᶠ, oneᶠ, -∞, whole}
 use Rattle.sequencer.specs.declared.Sequencer.{Sequencer}
 use Rattle.sequencer.specs.declared.Outcome.{Outcome}
-use Rattle.sequencer.specs.Answers.{accepts, refuses}
+use Rattle.sequencer.specs.Answers.{accepts}
+use Rattle.sequencer.specs.Outcomes.{refuses}
 
 unfoldable pub freshEngine : (outputs : ℕ) → ReplayMode → (first : ℕ) → Sequencer
 unfolding whole

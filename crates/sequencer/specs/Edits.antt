@@ -5,7 +5,8 @@ use lib.Ieee.{Float, lt, add}
 use lib.ListN.{getD, set}
 use Rattle.event.specs.declared.EventId.{EventId}
 use Rattle.event.specs.declared.Edit.{Edit}
-use Rattle.event.specs.Events.{blank, editedBy}
+use Rattle.event.specs.Events.{editedBy}
+use Rattle.event.specs.Blank.{blank}
 use Rattle.floats.specs.Arithmetic.{_<ᶠ_}
 use Rattle.lists.specs.declared.ActiveMap.{ActiveMap}
 use Rattle.lists.specs.declared.Found.{Found}
@@ -18,7 +19,8 @@ use Rattle.sequencer.specs.declared.Sequencer.{Sequencer}
 use Rattle.sequencer.specs.declared.Outcome.{Outcome}
 use Rattle.sequencer.specs.Parts.{withEdits, withSounding}
 use Rattle.refusals.specs.Refusals.{editRefusal}
-use Rattle.sequencer.specs.Answers.{said, refuses}
+use Rattle.sequencer.specs.Answers.{said}
+use Rattle.sequencer.specs.Outcomes.{refuses}
 
 abbrev pub indexOf : Sequencer → ActiveMap
 indexOf s = record { ids = s .«active_map»; len = s .«active_len» }

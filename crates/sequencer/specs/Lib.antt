@@ -3,6 +3,7 @@ pub mod Moves
 pub mod Rounds
 pub mod Turns
 pub mod Answers
+pub mod Outcomes
 pub mod Creation
 pub mod Pushes
 pub mod Rises

@@ -8,7 +8,8 @@ use lib.ListN.{getD, set}
 use Rattle.event.specs.declared.Event.{Event}
 use Rattle.event.specs.declared.ReplayMode.{ReplayMode}
 use Rattle.event.specs.declared.ReplayMode.the-variants.{All, None}
-use Rattle.event.specs.Events.{blank, editedBy}
+use Rattle.event.specs.Events.{editedBy}
+use Rattle.event.specs.Blank.{blank}
 use Rattle.ready.specs.declared.Ready.{Ready}
 use Rattle.ready.specs.Waiting.{pushed, popped}
 use Rattle.lists.specs.declared.FoundEdit.{FoundEdit}

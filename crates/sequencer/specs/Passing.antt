@@ -9,7 +9,8 @@ use lib.ListN.{getD, set}
 use Rattle.event.specs.declared.Event.{Event}
 use Rattle.event.specs.declared.MixOrder.{MixOrder}
 use Rattle.event.specs.declared.Unit.{Unit}
-use Rattle.event.specs.Events.{blank, withUnit}
+use Rattle.event.specs.Events.{withUnit}
+use Rattle.event.specs.Blank.{blank}
 use Rattle.sequencer.specs.declared.Sequencer.{Sequencer}
 use Rattle.sequencer.specs.Parts.{withSounding}
 use Rattle.sequencer.specs.Rendering.{Passed, mixPlace, passes}

@@ -16,7 +16,8 @@ use Rattle.sequencer.specs.declared.Outcome.{Outcome}
 use Rattle.sequencer.specs.Parts.{withNext}
 use Rattle.sequencer.specs.Moves.{pushedEvent}
 use Rattle.refusals.specs.Refusals.{pushRefusal}
-use Rattle.sequencer.specs.Answers.{said, refuses}
+use Rattle.sequencer.specs.Answers.{said}
+use Rattle.sequencer.specs.Outcomes.{refuses}
 
 -- the event enters, and the next number is taken
 abbrev pub enters : Sequencer → Event → Sequencer

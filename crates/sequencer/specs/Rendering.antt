@@ -9,8 +9,9 @@ use Rattle.event.specs.declared.Event.{Event}
 use Rattle.event.specs.declared.MixOrder.{MixOrder}
 use Rattle.event.specs.declared.MixOrder.the-variants.{Forward, Backward}
 use Rattle.event.specs.declared.Placings.{Placings}
-use Rattle.event.specs.Events.{blank}
-use Rattle.event.specs.Placings.{noPlacings, addAll}
+use Rattle.event.specs.Blank.{blank}
+use Rattle.event.specs.Placings.{noPlacings}
+use Rattle.event.specs.PlacingCounts.{addAll}
 use Rattle.floats.specs.Arithmetic.{_+ᵈ_, _×ᵈ_, _+ˢ_, zeroᶠ, whole}
 use Rattle.ledger.specs.TickSamples.{tickSample, afterTick}
 use Rattle.ledger.specs.BlockSamples.{Span, channelAfter, afterBlock, overlay}
@@ -23,7 +24,8 @@ use Rattle.sequencer.specs.declared.StepKind.the-variants.{Tick, Block}
 use Rattle.sequencer.specs.Parts.{withSounding}
 use Rattle.sequencer.specs.Moves.{advanced}
 use Rattle.refusals.specs.Refusals.{tickRefusal, processRefusal}
-use Rattle.sequencer.specs.Answers.{accepts, renders, refuses}
+use Rattle.sequencer.specs.Answers.{accepts}
+use Rattle.sequencer.specs.Outcomes.{renders, refuses}
 
 -- ---- a pass over an array: each element in turn is replaced by `next` of it, and added to a sum. i have been passed and f are left; the next is at place i, or of the places left the last.
 

@@ -8,7 +8,8 @@ use lib.ListN.{getD, set}
 use Rattle.event.specs.declared.Event.{Event}
 use Rattle.event.specs.declared.ReplayMode.{ReplayMode}
 use Rattle.event.specs.declared.ReplayMode.the-variants.{All, None}
-use Rattle.event.specs.Events.{blank, rewound}
+use Rattle.event.specs.Events.{rewound}
+use Rattle.event.specs.Blank.{blank}
 use Rattle.floats.specs.Arithmetic.{_÷ᵈ_, zeroᶠ, oneᶠ, -∞}
 use Rattle.lists.specs.declared.EditMap.{EditMap}
 use Rattle.sequencer.specs.declared.Sequencer.{Sequencer}
@@ -16,7 +17,8 @@ use Rattle.sequencer.specs.declared.Outcome.{Outcome}
 use Rattle.sequencer.specs.Parts.{withReady, withActive, withPast, withEdits, withTimes, withRate, withLetGo}
 use Rattle.sequencer.specs.Moves.{allToReady}
 use Rattle.refusals.specs.Refusals.{rateRefusal}
-use Rattle.sequencer.specs.Answers.{accepts, refuses}
+use Rattle.sequencer.specs.Answers.{accepts}
+use Rattle.sequencer.specs.Outcomes.{refuses}
 
 -- ---- reset
 

@@ -6,7 +6,8 @@ use lib.Ieee.{Float, lt, add, sub}
 use Rattle.event.specs.declared.Event.{Event}
 use Rattle.event.specs.declared.Fade.{Fade}
 use Rattle.event.specs.declared.Source.{Source}
-use Rattle.event.specs.Events.{earlier, blank, newEvent}
+use Rattle.event.specs.Events.{earlier, newEvent}
+use Rattle.event.specs.Blank.{blank}
 use Rattle.floats.specs.Arithmetic.{_-ᵈ_}
 use Rattle.ready.specs.Levels.{levels}
 use Rattle.ledger.specs.Calls.{PushKind}

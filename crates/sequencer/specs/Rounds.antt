@@ -7,7 +7,8 @@ use native.Mathlib.Omega.{arith}
 use borrow.Author.Tests.{lt-ltb, le-ltb, le-leb}
 use lib.ListN.{getD, set}
 use Rattle.event.specs.declared.Event.{Event}
-use Rattle.event.specs.Events.{blank, earlier}
+use Rattle.event.specs.Events.{earlier}
+use Rattle.event.specs.Blank.{blank}
 use Rattle.ready.specs.Sift.{rise, sink, child, parent}
 use Rattle.ready.specs.Rounds.{Rising, rising-on, risen-root, risen-stop, Sinking, sinking-on, sunk}
 use Rattle.ready.specs.Waiting.{pushed, popped}

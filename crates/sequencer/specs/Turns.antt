@@ -14,7 +14,8 @@ use Rattle.event.specs.declared.EventId.{EventId}
 use Rattle.event.specs.declared.Edit.{Edit}
 use Rattle.event.specs.declared.ReplayMode.{ReplayMode}
 use Rattle.event.specs.declared.ReplayMode.the-variants.{All, None}
-use Rattle.event.specs.Events.{blank, editedBy, rewound}
+use Rattle.event.specs.Events.{editedBy, rewound}
+use Rattle.event.specs.Blank.{blank}
 use Rattle.floats.specs.Arithmetic.{_+ᵈ_, _-ᵈ_, _×ᵈ_, halfᶠ}
 use Rattle.ready.specs.Waiting.{popped}
 use Rattle.lists.specs.Search.{seek}

@@ -11,12 +11,14 @@ use Rattle.event.specs.declared.Fade.the-variants.{Smooth}
 use Rattle.event.specs.declared.MixOrder.the-variants.{Forward}
 use Rattle.event.specs.declared.ReplayMode.the-variants.{None}
 use Rattle.event.specs.declared.Source.the-variants.{Held}
-use Rattle.floats.specs.Arithmetic.{zeroᶠ, oneᶠ, halfᶠ, +∞, whole}
+use Rattle.floats.specs.Arithmetic.{zeroᶠ, oneᶠ, halfᶠ, whole}
+use Rattle.floats.specs.Constants.{+∞}
 use Rattle.floats.specs.Floats.{index}
 use Rattle.math.specs.Curves.{smooth}
 use Rattle.ledger.specs.Calls.{Call, tick, block, absolute, number, refused}
 use Rattle.ledger.specs.Ledger.{held, fresh}
-use Rattle.ledger.specs.Steps.{run, computes}
+use Rattle.ledger.specs.Steps.{run}
+use Rattle.ledger.specs.Computes.{computes}
 use Rattle.ledger.specs.Cases.{decimal, 512ths, atRate8, held1, answersOf, lastOut}
 use Rattle.desk.specs.Desk as Desk
 use Rattle.desk.specs.Desk.{front, back, opened}

@@ -9,7 +9,8 @@ use borrow.Author.Tests.{eq-eqb, ne-eqb}
 use lib.ListN.{length, getD, take, drop, length-take, drop-of-length-le}
 use lib.Seq.{drop-cons, getD-take}
 use Rattle.event.specs.declared.Event.{Event}
-use Rattle.event.specs.Events.{numberOf, blank}
+use Rattle.event.specs.Events.{numberOf}
+use Rattle.event.specs.Blank.{blank}
 use Rattle.ledger.specs.Lists.{has}
 
 module _ (k len : ℕ) (xs : List Event) (n i : ℕ) (z : length xs ≡ 256) (e : n ≡ min len 256) where

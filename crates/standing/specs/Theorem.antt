@@ -15,9 +15,8 @@ use Rattle.ledger.specs.Lists.{has, numbers}
 use Rattle.ledger.specs.Ledger.{Ledger}
 use Rattle.ledger.specs.Sums.{numberSum-append, numberSum-numbers, eventSum-perm}
 use Rattle.ledger.specs.Conservation.{byNumber}
-use Rattle.ledger.specs.Numbers.{accepted, among, times}
+use Rattle.ledger.specs.Claim.{accepted, among, times, SameState, AllLend, engineAfter, ledgerAfter}
 use Rattle.ledger.specs.Partition.{is, times-is, once-or-never}
-use Rattle.ledger.specs.Claim.{SameState, AllLend, engineAfter, ledgerAfter}
 use Rattle.sequencer.specs.declared.Sequencer.{Sequencer}
 use Rattle.claim.specs.View.{viewOf}
 use Rattle.claim.specs.EngineCalls.{engine}

@@ -11,7 +11,8 @@ use Rattle.event.specs.declared.StoredEdit.{StoredEdit}
 use Rattle.event.specs.declared.Source.{Source}
 use Rattle.event.specs.declared.Source.the-variants.{Held, Ramp, Clip}
 use Rattle.event.specs.declared.Unit.{Unit}
-use Rattle.event.specs.Events.{numberOf, blank}
+use Rattle.event.specs.Events.{numberOf}
+use Rattle.event.specs.Blank.{blank}
 use Rattle.event.specs.Numbers.{curveNumber, sourceNumber, firstWord, secondWord}
 use Rattle.lists.specs.declared.EditMap.{EditMap}
 use Rattle.lists.specs.Index.{noId}

@@ -6,7 +6,8 @@ use mathlib.Core.List.{List, [], _∷_, _++_, map}
 use lib.IntN.{pos, negsuc}
 use lib.ListN.{replicate}
 use lib.Ieee.{Float, nan, fin, add, round}
-use Rattle.floats.specs.Arithmetic.{zeroᶠ, oneᶠ, +∞, -∞}
+use Rattle.floats.specs.Arithmetic.{zeroᶠ, oneᶠ, -∞}
+use Rattle.floats.specs.Constants.{+∞}
 use Rattle.sums.specs.Multiples.{multiple, multiples, summed, numerator, exactSum, Exactly}
 
 -- n / 2 ^ (k + 1)

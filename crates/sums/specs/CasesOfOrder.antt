@@ -15,13 +15,12 @@ use Rattle.event.specs.declared.ReplayMode.the-variants as Mode
 use Rattle.event.specs.declared.Source.{Source}
 use Rattle.event.specs.declared.Source.the-variants.{Held, Ramp, Clip}
 use Rattle.event.specs.Events.{newEvent}
-use Rattle.ledger.specs.BlockSamples as Block
 use Rattle.ledger.specs.BlockSamples.{Span}
 use Rattle.ledger.specs.Calls.{Call, push, tick, block, absolute}
 use Rattle.ledger.specs.Cases.{lastOut}
 use Rattle.ledger.specs.Ledger.{fresh}
-use Rattle.ledger.specs.Steps.{run, computes}
-use Rattle.ledger.specs.TickSamples as Tick
+use Rattle.ledger.specs.Steps.{run}
+use Rattle.ledger.specs.Computes.{computes, computes-ticks, computes-blocks}
 use Rattle.sums.specs.Cases.{least}
 use Rattle.sums.specs.Contributions.{All, unfadedTick, TickQualifies, unfadedAt, BlockQualifies, tickContributions, blockContributions}
 use Rattle.sums.specs.Multiples.{multiple}
@@ -50,18 +49,18 @@ fading level = clip zeroᶠ oneᶠ quarter (fin false 3 (negsuc 2)) (Held level)
 pub unfaded-places :
     (atPlaces (fading oneᶠ) ≡ false ∷ false ∷ true ∷ true ∷ true ∷ false ∷ false ∷ false ∷ [])
     × (atClocks (fading oneᶠ) ≡ false ∷ false ∷ true ∷ true ∷ true ∷ true ∷ false ∷ false ∷ [])
-unfolding Block.computes Tick.computes
+unfolding computes-blocks computes-ticks
 unfaded-places = (refl, refl)
 
 -- A fade-in alone; and without fades none is applied, wherever the clip begins and ends.
 pub fade-in-alone :
     let e : Event = clip zeroᶠ oneᶠ quarter zeroᶠ (Held oneᶠ) oneᶠ in
     (atPlaces e ≡ false ∷ false ∷ replicate 6 true) × (atClocks e ≡ false ∷ false ∷ replicate 6 true)
-unfolding Block.computes Tick.computes
+unfolding computes-blocks computes-ticks
 fade-in-alone = (refl, refl)
 
 pub no-fades : let e : Event = clip quarter halfᶠ zeroᶠ zeroᶠ (Held oneᶠ) oneᶠ in (atPlaces e ≡ replicate 8 true) × (atClocks e ≡ replicate 8 true)
-unfolding Block.computes Tick.computes
+unfolding computes-blocks computes-ticks
 no-fades = (refl, refl)
 
 -- "of the events with s ≤ k < z": a ramp 1, 2 .. from place 2 on, and a clip of 3/4s at gain 2 up to but without place 4. To a tick both contribute.
@@ -71,7 +70,7 @@ pub contributions-by-place :
     let l : List Event = clip quarter oneᶠ zeroᶠ zeroᶠ (Ramp oneᶠ oneᶠ) oneᶠ ∷ clip zeroᶠ halfᶠ zeroᶠ zeroᶠ (Clip 0 4) (fin false 1 (pos 1)) ∷ [] in
     (map (λ k. blockContributions pool span k l) (1 ∷ 2 ∷ 3 ∷ 4 ∷ 8 ∷ []) ≡ (x ∷ []) ∷ (oneᶠ ∷ x ∷ []) ∷ (fin false 1 (pos 1) ∷ x ∷ []) ∷ (fin false 3 (pos 0) ∷ []) ∷ [] ∷ [])
     × (tickContributions pool zeroᶠ l ≡ oneᶠ ∷ x ∷ [])
-unfolding Block.computes Tick.computes filterMap
+unfolding computes-blocks computes-ticks filterMap
 contributions-by-place = (refl, refl)
 
 -- 1/32768 qualifies between the fades; 1/65536 does not, nor does either in a fade. A ramp from place 1 on, 2/65536, 3/65536 ..: its first sample qualifies, its second does not.
@@ -80,7 +79,7 @@ pub qualifying :
     BlockQualifies [] span 3 (fading least) × TickQualifies [] halfᶠ (fading least)
     × (BlockQualifies [] span 3 (fading (fin false 1 (negsuc 15))) → ⊥) × (BlockQualifies [] span 5 (fading least) → ⊥) × (All (TickQualifies [] zeroᶠ) (fading least ∷ []) → ⊥)
     × BlockQualifies [] span 0 ramp × BlockQualifies [] span 1 ramp × (BlockQualifies [] span 2 ramp → ⊥)
-unfolding Block.computes Tick.computes multiple
+unfolding computes-blocks computes-ticks multiple
 qualifying = (λ s. (tt, refl, tt), (tt, refl, tt), λ h. h tt .2, λ h. h tt .0, λ h. h .0 .0, λ s. absurd s, λ s. (tt, refl, tt), λ h. h tt .2)
 
 -- held levels from 0 to 1, in this order, and then a tick or a block of one sample

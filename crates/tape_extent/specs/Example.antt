@@ -4,7 +4,7 @@ use mathlib.Core.Bool.{true}
 use mathlib.Core.List.{[]}
 use lib.ListN.{take}
 use Rattle.floats.specs.Arithmetic.{whole}
-use Rattle.ledger.specs.Steps.{computes}
+use Rattle.ledger.specs.Computes.{computes}
 use Rattle.tape.specs.Example.{example}
 use Rattle.tape.specs.Fields.{field, fromLittleEndian}
 use Rattle.tape.specs.Tape.{recordOf, unknown, pushKind, sizeOf, callOf, pushOf, sourceOf}

@@ -1,10 +1,13 @@
-// `trail_clips FROM TO < TAPE` plays the first 65,536 bytes of a tape and lists the clips that are then held in the stretch from FROM to TO, and the first waiting event from FROM on (crate overlap).
+// `trail_clips FROM TO [LENGTH] < TAPE` plays the first 65,536 bytes of a tape and lists the clips that are then held in the stretch from FROM to TO, and
+// the first waiting event from FROM on (crate overlap).
 // FROM and TO are milliseconds: up to 15 decimal digits or `inf`, with a minus sign or none. Anything else counts as a NaN, which is 17. A failed read counts as the tape's end.
+// LENGTH, up to 512, is how many numbers the lent slice has, in place of 256. Where it is given, the last line counts the slice's places that the call left.
 ghost use Prim.Native.Nat.{_≤_};
 ghost use lib.ListN.{length};
 use event::EventId;
 use overlap::FirstWaiting;
 use overlap::Found;
+use runs::least;
 use sequencer::Sequencer;
 use tape::reader::Cursor;
 use tape::reader::Read;
@@ -71,6 +74,19 @@ fn argument(i: usize) -> f64 {
     }
 }
 
+fn is_length_given() -> bool {
+    os::arg_count() == 4
+}
+
+// The slice's length.
+fn slice_length() -> usize {
+    if is_length_given() {
+        let nearest = floats::sample_index(argument(3) * 1000.0);
+        return least(nearest.index as usize, 512);
+    }
+    256
+}
+
 // ---- the tape
 
 // The engine after the tape, as far as no record stops it.
@@ -118,19 +134,62 @@ fn list_numbers(numbers: &[u64], n: usize) {
     }
 }
 
-fn list_clips(s: Sequencer, from: f64, to: f64) {
-    let mut numbers = [0u64; 256];
-    let found = overlap::clips(s, from, to, &mut numbers);
+fn list_clips(s: Sequencer, from: f64, to: f64, out: &mut [u64]) {
+    let found = overlap::clips(s, from, to, out);
     match found {
         Found::Clips(n) => {
             io::write_all(1, b"clips ");
             line(n as u64);
-            list_numbers(&numbers, n)
+            list_numbers(out, n)
         }
         Found::Refused(n) => {
             io::write_all(1, b"clips refused ");
             line(n)
         }
+    }
+}
+
+// What place i of the slice holds before the call; no event has such a number.
+fn mark(i: usize) -> u64 {
+    18446744073709551615 - (i as u64)
+}
+
+fn mark_all(row: &mut [u64]) {
+    let mut i = 0;
+    while i < row.len() {
+        row[i] = mark(i);
+        i = i + 1;
+    }
+}
+
+// How many of the first n places are as `mark_all` left them.
+fn count_left(row: &[u64], n: usize) -> u64 {
+    let mut count: u64 = 0;
+    let mut i = 0;
+    while i < n {
+        if row.len() <= i {
+            return count;
+        }
+        if row[i] == mark(i) {
+            count = std::num::wrapping_add_u64(count, 1);
+        }
+        i = i + 1;
+    }
+    count
+}
+
+// Lists the clips by a slice of `length` numbers, the front of the row.
+fn list_by_slice(s: Sequencer, from: f64, to: f64, row: &mut [u64], length: usize) {
+    mark_all(row);
+    if length <= row.len() {
+        list_clips(s, from, to, &mut row[..length]);
+    }
+}
+
+fn list_left(row: &[u64], length: usize) {
+    if is_length_given() {
+        io::write_all(1, b"left ");
+        line(count_left(row, length));
     }
 }
 
@@ -159,7 +218,10 @@ fn main() {
     if n <= 65536 {
         let pool = tape::pool::trail_pool();
         let s = play(&buf[..n], &pool);
-        list_clips(s, from, to);
+        let length = slice_length();
+        let mut row = [0u64; 512];
+        list_by_slice(s, from, to, &mut row, length);
         list_first(s, from);
+        list_left(&row, length);
     }
 }

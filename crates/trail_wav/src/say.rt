@@ -59,7 +59,7 @@ fn digit(fd: i32, n: u64) {
 // A number from 0 on with six decimals; `beyond` where it is none below 1,000,000,000.
 fn print_number(fd: i32, x: f64) {
     if x < 1000000000.0 {
-        let n = floats::sample_index(x * 1000000.0).index;
+        let n = floats::nearest_index(x * 1000000.0);
         io::print_decimal(fd, n / 1000000);
         io::write_all(fd, b".");
         digit(fd, n / 100000);

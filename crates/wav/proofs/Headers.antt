@@ -14,7 +14,7 @@ use Rattle.little_endian.specs.LowBytes.{littleEndian}
 use Rattle.little_endian.specs.Fields.{joined}
 use Rattle.little_endian.specs.Fields.{fieldsIn}
 use Rattle.wav.specs.Header.{isLarge, partsOf, headerBytes, widthsOf, numbersOf, wholeRate}
-use Rattle.floats.specs.Arithmetic.{whole-is}
+use Rattle.floats.specs.WholeIs.{whole-is}
 use Rattle.floats.specs.Floats.{index}
 
 laid : (b : Bool) (c r n : ℕ) → sets (replicate 94 0) 0 (fieldsIn 94 (widthsOf b) (numbersOf b c r n)) ≡ joined (partsOf b c r n)

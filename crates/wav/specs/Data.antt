@@ -9,7 +9,7 @@ use lib.Ieee.{Float}
 use lib.ListN.{length, drop}
 use Rattle.event.specs.declared.ReplayMode.the-variants.{All}
 use Rattle.ledger.specs.Ledger.{Ledger, fresh}
-use Rattle.ledger.specs.Steps.{computes}
+use Rattle.ledger.specs.Computes.{computes}
 use Rattle.little_endian.specs.Samples.{bytesOf}
 use Rattle.tape.specs.declared.reader.Call.{Call}
 use Rattle.tape.specs.declared.reader.Cursor.{Cursor}

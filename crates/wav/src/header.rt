@@ -152,7 +152,7 @@ pub fn header(channels: u8, rate: u32, frames: u32) -> [u8; 94]
 pub fn whole_rate(rate: f64) -> u32
     ensures { λ r. ⌜ r ≡ wholeRate rate ⌝ }
 {
-    let n = floats::sample_index(rate).index;
+    let n = floats::nearest_index(rate);
     if 0xFFFF_FFFF < n {
         return 0;
     }

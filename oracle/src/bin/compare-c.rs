@@ -1,7 +1,8 @@
-//! Compares the port's C entry, linked from its static library, with the oracle's bytes: the original's where all gains of a tape are
-//! 1.0, else the second ledger's.
+//! Compares the port's C entries, linked from their static library, with the oracle's bytes: the original's where all gains of a
+//! tape are 1.0, else the second ledger's. `render_with_pool` has a random pool for each tape.
 
 use oracle::compare::{Compared, Options, compare};
+use oracle::generate::pools::pool_for;
 use oracle::render::{render as expected_render, render_ends};
 use oracle::session::{TRAIL_POOL, pool};
 use oracle::tape::Format;
@@ -10,6 +11,16 @@ use std::process::ExitCode;
 unsafe extern "C" {
     /// Renders a lent tape into a lent byte slice; the count of bytes written.
     fn render(tape: *const u8, tape_length: usize, out: *mut u8, out_length: usize) -> usize;
+
+    /// The same with a lent pool.
+    fn render_with_pool(
+        tape: *const u8,
+        tape_length: usize,
+        pool: *const f32,
+        pool_length: usize,
+        out: *mut u8,
+        out_length: usize,
+    ) -> usize;
 }
 
 /// How many ticks and blocks of a tape have their ends tried as the length lent, and up to which length of the tape.
@@ -42,7 +53,7 @@ fn run(arguments: &[String]) -> Result<Compared, String> {
     let pool = pool(TRAIL_POOL);
     // Room for the longest tape's samples: 64 of 8 channels for each record.
     let mut room = Vec::new();
-    Ok(compare(&options, |tape| {
+    Ok(compare(&options, |tape, seed| {
         room.resize(4 * 64 * 8 * tape.len(), MARK);
         let ends = render_ends(tape, &mut room, &pool);
         room.clear();
@@ -54,7 +65,7 @@ fn run(arguments: &[String]) -> Result<Compared, String> {
         }
         lengths.sort_unstable();
         lengths.dedup();
-        lengths.into_iter().find_map(|length| {
+        let with_lengths = lengths.into_iter().find_map(|length| {
             let mut expected = vec![MARK; length];
             let mut got = expected.clone();
             let expected_count = expected_render(tape, &mut expected, &pool);
@@ -63,8 +74,25 @@ fn run(arguments: &[String]) -> Result<Compared, String> {
                 unsafe { render(tape.as_ptr(), tape.len(), got.as_mut_ptr(), got.len()) }
             });
             difference(length, (expected_count, &expected), (count, &got))
-        })
+        });
+        with_lengths.or_else(|| with_pool(tape, seed, whole + 5))
     }))
+}
+
+/// `render_with_pool` with the pool of a tape and a seed, and so many bytes lent.
+fn with_pool(tape: &[u8], seed: u64, length: usize) -> Option<String> {
+    let (pool, words) = pool_for(tape, seed);
+    let mut expected = vec![MARK; length];
+    let mut got = expected.clone();
+    let expected_count = expected_render(tape, &mut expected, &pool);
+    let samples = &pool[..];
+    let count = with_stated_stack(|| {
+        let (tape_at, pool_at, out_at) = (tape.as_ptr(), samples.as_ptr(), got.as_mut_ptr());
+        // Safety: the three slices are lent for the call, with their lengths.
+        unsafe { render_with_pool(tape_at, tape.len(), pool_at, samples.len(), out_at, length) }
+    });
+    let what = difference(length, (expected_count, &expected), (count, &got))?;
+    Some(format!("with a pool ({words}): {what}"))
 }
 
 /// What a call gives on a thread with the stack that the handbook states.

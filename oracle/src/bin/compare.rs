@@ -48,7 +48,7 @@ fn run(arguments: &[String]) -> Result<Compared, String> {
         return Err(USAGE.into());
     }
     let pool = pool(TRAIL_POOL);
-    Ok(compare(&options, |tape| {
+    Ok(compare(&options, |tape, _| {
         let tape = match (format, detail) {
             (Format::Desk, _) => &as_the_port_lends(format, tape)[..],
             (_, Detail::Digest | Detail::Places) => &tape[..tape.len().min(STATE_TAPE)],

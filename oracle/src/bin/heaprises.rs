@@ -1,9 +1,13 @@
 //! Paper 13: `heaprises PROGRAM TRAIL` runs heap_worst_case for every n from 1 to 256: its tape against one that is written here
 //! byte by byte, the listing of that tape by TRAIL against the original's, and both figures against the paper's sentences; then
-//! words that are no such n, each refused as 23. `heaprises tape N` prints the tape of N pushes.
+//! words that are no such n, each refused as 23. `heaprises tape N` prints the tape of N pushes. `heaprises compare TAPES RISES`
+//! compares the rises that trail_rises prints, and the order in which events sound, on random tapes with pops between the pushes;
+//! `heaprises stdin` and `heaprises stdout` print the files of crates/trail_rises.
 
+use oracle::generate::random::Random;
 use oracle::judge;
 use oracle::listing::Detail;
+use oracle::rises::{self, Counts, Heap};
 use oracle::session::{TRAIL_POOL, pool};
 use oracle::tape::Format;
 use std::ffi::OsString;
@@ -13,17 +17,78 @@ use std::process::{Command, ExitCode, Output, Stdio};
 
 fn main() -> ExitCode {
     let arguments: Vec<String> = std::env::args().skip(1).collect();
-    let [program, trail] = &arguments[..] else {
-        eprintln!("usage: heaprises PROGRAM TRAIL | tape N");
-        return ExitCode::from(2);
-    };
-    if program == "tape" {
-        let tape = tape(trail.parse().expect("a number of pushes"));
-        std::io::stdout()
-            .write_all(&tape)
-            .expect("standard output takes all");
-        return ExitCode::SUCCESS;
+    let words: Vec<&str> = arguments.iter().map(String::as_str).collect();
+    match words[..] {
+        ["tape", n] => print(&tape(n.parse().expect("a number of pushes"))),
+        ["stdin"] => print(&sample()),
+        ["stdout"] => {
+            print(rises::text(&sample(), &pool(TRAIL_POOL), &mut Counts::default()).as_bytes())
+        }
+        ["compare", tapes, program] => {
+            return compare(tapes.parse().expect("a number of tapes"), program);
+        }
+        [program, trail] => return every_n(program, trail),
+        _ => {
+            eprintln!(
+                "usage: heaprises PROGRAM TRAIL | compare TAPES RISES | tape N | stdin | stdout"
+            );
+            return ExitCode::from(2);
+        }
     }
+    ExitCode::SUCCESS
+}
+
+fn print(bytes: &[u8]) {
+    std::io::stdout()
+        .write_all(bytes)
+        .expect("standard output takes all");
+}
+
+/// The tape of the files: the first long one.
+fn sample() -> Vec<u8> {
+    (0..)
+        .map(|seed| rises::tape(&mut Random::new(seed)))
+        .find(|tape| tape.len() > 15000)
+        .expect("some tape is long")
+}
+
+fn compare(tapes: u64, program: &str) -> ExitCode {
+    let pool = pool(TRAIL_POOL);
+    let mut counts = Counts::default();
+    let mut differences = 0u64;
+    for seed in 0..tapes {
+        let tape = rises::tape(&mut Random::new(seed));
+        let expected = rises::text(&tape, &pool, &mut counts);
+        let got = output(program, &[], &tape);
+        if got.stdout != expected.as_bytes() {
+            if differences == 0 {
+                let got = text(&got.stdout);
+                let line = expected
+                    .lines()
+                    .zip(got.lines().chain(std::iter::repeat("")))
+                    .position(|(a, b)| a != b);
+                eprintln!("heaprises: seed {seed}, line {line:?} (from 0) differs");
+            }
+            differences += 1;
+        }
+    }
+    let Counts {
+        pushes,
+        risen,
+        pops,
+    } = counts;
+    println!(
+        "heaprises: {tapes} tapes, {pushes} pushes that rose {risen} levels, {pops} pops between them, {differences} differences"
+    );
+    println!("{} passed, {differences} failed", tapes - differences);
+    if differences == 0 {
+        ExitCode::SUCCESS
+    } else {
+        ExitCode::FAILURE
+    }
+}
+
+fn every_n(program: &str, trail: &str) -> ExitCode {
     let (mut passed, mut failed) = (0, 0);
     let mut count = |good: bool, what: String| {
         if good {
@@ -85,26 +150,12 @@ fn bound(n: u32) -> u32 {
     (1..=n).map(u32::ilog2).sum()
 }
 
-/// "the number of events, on the way from the heap's first free place before the push up to the top, that come after the new
-/// one in the heap's order", added up over the n pushes. The heap is a plain one of starts and numbers.
+/// What the rises of the n pushes add up to, over a plain heap.
 fn risen(n: u32) -> usize {
-    let mut heap: Vec<(u32, u32)> = Vec::new();
-    let mut total = 0;
-    for k in 1..=n {
-        let event = (n - k, k);
-        let mut place = heap.len();
-        while place > 0 {
-            place = (place - 1) / 2;
-            total += usize::from(heap[place] > event);
-        }
-        heap.push(event);
-        let mut place = heap.len() - 1;
-        while place > 0 && heap[(place - 1) / 2] > heap[place] {
-            heap.swap(place, (place - 1) / 2);
-            place = (place - 1) / 2;
-        }
-    }
-    total
+    let mut heap = Heap::default();
+    (1..=n)
+        .map(|k| heap.push((f64::from(n - k), k.into())))
+        .sum()
 }
 
 /// The original's listing.

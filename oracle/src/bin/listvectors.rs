@@ -178,27 +178,39 @@ fn sample(i: u64, window: u64) -> f32 {
     f32::from_bits((r % 2) << 31 | magnitude)
 }
 
-fn peak_digest(window: usize) -> u64 {
-    let (mut peak, refusal) = Peak::new(window);
+// The digest with a refusal and an answer in it.
+fn seen(digest: u64, refusal: u64, answer: Result<u32, u64>) -> u64 {
+    let digest = mixed(digest, refusal);
+    match answer {
+        Ok(x) => mixed(mixed(digest, 0), x as u64),
+        Err(n) => mixed(mixed(digest, 1), n),
+    }
+}
+
+fn peak_digest(window: usize, words: usize) -> u64 {
+    let (mut peak, refusal) = Peak::new(window, words);
     let mut seed: u32 = 521288629;
-    let mut digest = mixed(refusal, peak.peak() as u64);
-    let mut changes = 0;
+    let mut digest = seen(0, refusal, peak.peak(words));
+    let (mut changes, mut refused) = (0, 0);
     for _ in 0..20000 {
         seed = random(seed);
         let r = seed as u64 / 4;
-        let n = match (seed % 4 < 3, r % 61) {
-            (true, _) => 1,
-            (_, 0) => 5000,
-            _ => r / 64 % 32,
+        // how many samples, and the words of the row lent: at times one less than the window in force
+        let (n, lent) = match (seed % 4 < 3, r % 61) {
+            (true, _) if r % 16 == 0 => (1, peak.window - 1),
+            (true, _) => (1, words),
+            (_, 0) => (5000, words),
+            _ => (r / 64 % 32, words),
         };
         let from = peak.count() as u64;
         let run: Vec<f32> = (from..from + n).map(|i| sample(i, window as u64)).collect();
-        let before = peak.peak();
-        peak.feed(&run);
-        changes += (peak.peak() != before) as u64;
-        digest = mixed(digest, peak.peak() as u64);
+        let before = peak.peak(words);
+        let refusal = peak.feed(&run, lent);
+        changes += (peak.peak(words) != before) as u64;
+        refused += (refusal == 20) as u64;
+        digest = seen(digest, refusal, peak.peak(words));
     }
-    eprintln!("peak {window}: {changes} answers differ from the one before, {} samples", peak.count());
+    eprintln!("peak {window} in {words}: {changes} answers differ from the one before, {refused} feeds refused, {} samples", peak.count());
     mixed(digest, peak.count() as u64)
 }
 
@@ -281,7 +293,10 @@ fn main() {
     println!("index {:016X}", index_digest());
     println!("edits {:016X}", edit_digest());
     for window in [0, 1, 2, 64, 1000, 4095, 4096, 4097] {
-        println!("peak {window:<4} {:016X}", peak_digest(window));
+        println!("peak {window:<4} {:016X}", peak_digest(window, 4096));
+    }
+    for (window, words) in [(1, 0), (64, 0), (64, 63), (64, 64)] {
+        println!("{:<13} {:016X}", format!("peak {window} in {words}"), peak_digest(window, words));
     }
     println!("hours {:016X}", hours_digest());
 }

@@ -2,6 +2,7 @@
 
 mod composer;
 mod damage;
+pub mod pools;
 mod profile;
 pub mod random;
 mod wild;

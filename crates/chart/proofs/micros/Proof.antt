@@ -1,15 +1,14 @@
 use lib.Ieee.{round, ofBits}
 use mathlib.Core.Path.{refl, sym, ap, _∙_}
 use Rattle.floats.specs.Arithmetic.{whole}
-use Rattle.floats.specs.IndexStep.{sampleIndex}
 use Rattle.chart.specs.Scale.{microsOf}
 use borrow.Author.Needs.{needs}
 use Rattle.chart.proofs.micros.Statement.{statement}
 use Rattle.chart.proofs.micros.Tie as tie
 
 returns : tie.Need-returns
-unfolding microsOf sampleIndex ofBits whole round
-returns c = rw (c .least .ensures, c .before .sample-index .ensures) refl
+unfolding microsOf ofBits whole round
+returns c = rw (c .least .ensures, c .before .nearest-index .ensures) refl
 
 pub micros-spec : {M : Type 1} → statement M
 micros-spec = tie.close

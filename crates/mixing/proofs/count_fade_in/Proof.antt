@@ -1,6 +1,6 @@
 -- `mixing::count_fade_in` meets its contract. Assumes nothing.
 use mathlib.Core.Path.{_≡_, ap, sym, _∙_}
-use Rattle.event.specs.Placings.{oneMore}
+use Rattle.event.specs.PlacingCounts.{oneMore}
 use Rattle.ledger.specs.Places.{fadeInPlacings}
 use Rattle.mixing.specs.declared.Place.{Place}
 use borrow.Author.Needs.{needs}

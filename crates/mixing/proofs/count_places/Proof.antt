@@ -3,7 +3,7 @@ use mathlib.Core.Path.{_≡_, ap, ap₂, sym, _∙_}
 use mathlib.Core.List.{_++_}
 use borrow.Author.Tests.{lt-ltb, le-ltb}
 use Rattle.event.specs.declared.Placings.{Placings}
-use Rattle.event.specs.Placings.{oneMore, addAll, addAll-append}
+use Rattle.event.specs.PlacingCounts.{oneMore, addAll, addAll-append}
 use Rattle.ledger.specs.Places.{fadeInPlacings, fadeOutPlacings, eventPlacings}
 use Rattle.mixing.specs.declared.Place.{Place}
 use Rattle.mixing.specs.Blocks.{asSpan}

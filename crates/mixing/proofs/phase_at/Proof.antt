@@ -1,5 +1,5 @@
 -- `mixing::phase_at` meets its contract. Assumes nothing.
-use Rattle.floats.specs.Arithmetic.{whole-is}
+use Rattle.floats.specs.WholeIs.{whole-is}
 use Rattle.ledger.specs.BlockSamples.{phaseAt}
 use borrow.Author.Needs.{needs}
 use Rattle.mixing.proofs.phase_at.Statement.{statement}

@@ -9,7 +9,8 @@ use lib.Dec.{leb}
 use lib.ListN.{length}
 use Rattle.event.specs.declared.Unit.{Unit}
 use Rattle.event.specs.declared.Source.{Source}
-use Rattle.event.specs.Sources.{advancedBy, source-stays}
+use Rattle.event.specs.Sources.{advancedBy}
+use Rattle.event.specs.SourceStays.{source-stays}
 use Rattle.ledger.specs.BlockSamples.{channelAfter, afterBlock}
 use Rattle.ledger.specs.WithinBlock.{end-within}
 use Rattle.mixing.specs.declared.Place.{Place}

@@ -8,7 +8,7 @@ use mathlib.Core.Logic.{⊎-elim}
 use lib.Ieee.{Float}
 use native.Mathlib.Omega.{arith}
 use lib.ListN.{length, length-map, getD}
-use Rattle.event.specs.Events.{blank}
+use Rattle.event.specs.Blank.{blank}
 use Rattle.ready.specs.Sift.{rise}
 use Rattle.overlap.specs.Stretch.{inStretch}
 use Rattle.overlap.specs.Keys.{Key, keyLess, noKey, pairs, length-pairs}

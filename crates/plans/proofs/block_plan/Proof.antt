@@ -2,7 +2,8 @@
 use mathlib.Core.Path.{_≡_, sym, ap, _∙_}
 use borrow.Author.Tests.{eq-eqb, ne-eqb}
 use lib.Ieee.{Float}
-use Rattle.floats.specs.Arithmetic.{_+ᵈ_, _×ᵈ_, whole-is}
+use Rattle.floats.specs.Arithmetic.{_+ᵈ_, _×ᵈ_}
+use Rattle.floats.specs.WholeIs.{whole-is}
 use Rattle.plans.specs.Plans.{stepOf, stepPlan, blockPlan}
 use mathlib.Core.Bool.{false}
 use borrow.Author.Needs.{needs}

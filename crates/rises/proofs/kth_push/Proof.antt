@@ -6,7 +6,8 @@ use lib.IntN.{pos}
 use lib.Ieee.{Float, binary64, ofInt, ofBits}
 use Rattle.event.specs.declared.Fade.the-variants.{Smooth}
 use Rattle.event.specs.declared.Source.the-variants.{Held}
-use Rattle.floats.specs.Arithmetic.{zeroᶠ, oneᶠ, whole, whole-is}
+use Rattle.floats.specs.Arithmetic.{zeroᶠ, oneᶠ, whole}
+use Rattle.floats.specs.WholeIs.{whole-is}
 use Rattle.tape.specs.declared.reader.PushRecord.{PushRecord}
 use Rattle.rises.specs.Arrangement.{kthPush}
 use Rattle.rises.proofs.kth_push.Statement.{statement}

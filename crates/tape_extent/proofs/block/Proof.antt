@@ -1,7 +1,8 @@
 -- `tape_extent::block` meets its contract. Assumes nothing.
 use mathlib.Core.Path.{_≡_, sym, ap, _∙_}
 use lib.Ieee.{Float}
-use Rattle.floats.specs.Arithmetic.{_+ᵈ_, _×ᵈ_, whole, whole-is}
+use Rattle.floats.specs.Arithmetic.{_+ᵈ_, _×ᵈ_, whole}
+use Rattle.floats.specs.WholeIs.{whole-is}
 use Prim.Native.Nat.{ℕ}
 use Rattle.tape_extent.specs.Paces.{rendering, paced}
 use borrow.Author.Needs.{needs}

@@ -3,7 +3,7 @@ use borrow.Author.Needs.{needs}
 use mathlib.Core.Path.{_≡_, sym, ap, _∙_}
 use mathlib.Core.Bool.{Bool}
 use lib.Dec.{ltb}
-use Rattle.floats.specs.Floats.{ordered}
+use Rattle.floats.specs.Ordered.{ordered}
 use Rattle.floats.specs.declared.Order.{Order}
 use Rattle.floats.specs.Sooner.{tied, sooner-ordered}
 use Rattle.event.specs.declared.Event.{Event}

@@ -10,7 +10,7 @@ use native.Mathlib.Omega.{arith}
 use lib.Ieee.{ofBits}
 use lib.ListN.{length, getD, take, drop, replicate}
 use lib.Seq.{length-take-le, take-at, take-take}
-use Rattle.event.specs.Events.{blank}
+use Rattle.event.specs.Blank.{blank}
 use Rattle.floats.specs.Arithmetic.{zeroᶠ}
 use Rattle.mixing.specs.Blocks.{clearedPlaces}
 use Rattle.sequencer.specs.Parts.{withEdits, withTimes}

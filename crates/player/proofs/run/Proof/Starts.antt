@@ -8,7 +8,7 @@ use mathlib.Core.Logic.{⊎-elim}
 use Prim.Native.Nat.{_≤_, _<_, _-_}
 use native.Mathlib.Omega.{arith}
 use lib.ListN.{getD, set}
-use Rattle.event.specs.Events.{blank}
+use Rattle.event.specs.Blank.{blank}
 use Rattle.event.specs.declared.Event.{Event}
 use Rattle.floats.specs.Arithmetic.{_<ᶠ_}
 use Rattle.lists.specs.Edits.{noEdit, isEdit, placed}

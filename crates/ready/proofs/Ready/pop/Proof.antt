@@ -7,7 +7,8 @@ use mathlib.Core.Path.{_≡_, refl, sym, ap, _∙_}
 use mathlib.Core.Logic.{⊎-elim}
 use mathlib.Core.List.{List}
 use Rattle.event.specs.declared.Event.{Event}
-use Rattle.event.specs.Events.{earlier, blank}
+use Rattle.event.specs.Events.{earlier}
+use Rattle.event.specs.Blank.{blank}
 use Rattle.ready.specs.Sift.{rise, sink, child}
 use Rattle.ready.specs.Steps.{child-left, child-first, child-second}
 use Rattle.ready.specs.Waiting.{popped}

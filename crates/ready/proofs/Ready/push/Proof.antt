@@ -6,7 +6,8 @@ use mathlib.Core.Path.{refl, sym, ap, _∙_}
 use mathlib.Core.Logic.{⊎-elim}
 use mathlib.Core.List.{List}
 use Rattle.event.specs.declared.Event.{Event}
-use Rattle.event.specs.Events.{earlier, blank}
+use Rattle.event.specs.Events.{earlier}
+use Rattle.event.specs.Blank.{blank}
 use Rattle.ready.specs.Sift.{rise}
 use Rattle.ready.specs.Waiting.{pushed}
 use Rattle.ready.specs.Rounds.{Rising, rising-on, risen-root, risen-stop}

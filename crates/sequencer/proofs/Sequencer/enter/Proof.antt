@@ -8,7 +8,8 @@ use native.Mathlib.Omega.{arith}
 use Prim.Native.Nat.{ℕ, _+_, _≤_, _<_}
 use lib.Ieee.{lt}
 use Rattle.event.specs.declared.Event.{Event}
-use Rattle.event.specs.Events.{earlier, blank}
+use Rattle.event.specs.Events.{earlier}
+use Rattle.event.specs.Blank.{blank}
 use Rattle.ready.specs.Levels.{levels, Counting, counting-on, counted-root, counted-stop}
 use Rattle.sequencer.specs.declared.Sequencer.{Sequencer}
 use Rattle.sequencer.specs.declared.Answer.{Answer}

@@ -14,7 +14,7 @@ use Rattle.refusals.specs.Refusals.{pushRefusal}
 use Rattle.sequencer.specs.declared.Sequencer.{Sequencer}
 use Rattle.sequencer.specs.declared.Pushed.{Pushed}
 use Rattle.sequencer.specs.declared.Answer.the-variants.{Number}
-use Rattle.sequencer.specs.Answers.{refuses}
+use Rattle.sequencer.specs.Outcomes.{refuses}
 use Rattle.sequencer.specs.Pushes.{pushesTo, admitted}
 use Rattle.sequencer.specs.Rises.{withRise, entered, riseTo}
 use Rattle.sequencer.proofs.Sequencer.push_to.Statement.{statement}

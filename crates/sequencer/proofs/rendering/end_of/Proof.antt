@@ -2,7 +2,8 @@
 use borrow.Author.Needs.{needs}
 use mathlib.Core.Path.{sym, ap, _∙_}
 use lib.Ieee.{Float}
-use Rattle.floats.specs.Arithmetic.{_+ᵈ_, _×ᵈ_, whole-is}
+use Rattle.floats.specs.Arithmetic.{_+ᵈ_, _×ᵈ_}
+use Rattle.floats.specs.WholeIs.{whole-is}
 use Rattle.sequencer.specs.declared.StepKind.{StepKind}
 use Rattle.sequencer.specs.Rendering.{stepEnd}
 use Rattle.sequencer.proofs.rendering.end_of.Statement.{statement}

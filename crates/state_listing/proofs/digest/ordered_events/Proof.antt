@@ -5,7 +5,7 @@ use mathlib.Core.List.{List}
 use Prim.Native.Nat.{ℕ, _-_}
 use lib.ListN.{getD}
 use Rattle.event.specs.declared.Event.{Event}
-use Rattle.event.specs.Events.{blank}
+use Rattle.event.specs.Blank.{blank}
 use Rattle.digests.specs.Digests.{mixedAll}
 use Rattle.state_listing.specs.Digests.{eventWords, each, orderedEvents}
 use Rattle.state_listing.proofs.Running.{Running, running, running-on, run-through}

@@ -2,7 +2,8 @@
 use borrow.Author.Needs.{needs}
 use mathlib.Core.Path.{sym, ap, _∙_}
 use lib.Ieee.{Float, round, ofBits}
-use Rattle.floats.specs.Arithmetic.{_÷ᵈ_, whole, whole-is}
+use Rattle.floats.specs.Arithmetic.{_÷ᵈ_, whole}
+use Rattle.floats.specs.WholeIs.{whole-is}
 use Rattle.floats.specs.Floats.{narrowed}
 use Rattle.tape.proofs.pool.sample.Statement.{statement}
 use Rattle.tape.proofs.pool.sample.Tie as tie

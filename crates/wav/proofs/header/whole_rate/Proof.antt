@@ -1,22 +1,16 @@
-use mathlib.Core.Path.{_≡_, ap}
-use Rattle.floats.specs.declared.SampleIndex.{SampleIndex}
-use Rattle.floats.specs.IndexStep.{sampleIndex}
 use Rattle.wav.proofs.Headers.{rate-cut, rate-whole, rate-other}
 use borrow.Author.Needs.{needs}
 use Rattle.wav.proofs.header.whole_rate.Statement.{statement}
 use Rattle.wav.proofs.header.whole_rate.Tie as tie
 
 returns : tie.Need-returns
-unfolding sampleIndex
-returns c = rate-cut _ _ (ap (λ (r : SampleIndex). r .index) (c .before .sample-index .ensures)) (c .if1 .taken)
+returns c = rate-cut _ _ (c .before .nearest-index .ensures) (c .if1 .taken)
 
 returns-2 : tie.Need-returns-2
-unfolding sampleIndex
-returns-2 c = rate-whole _ _ (ap (λ (r : SampleIndex). r .index) (c .before .before .before .sample-index .ensures)) (c .before .before .if1 .left) _ (c .before .nearest-u64-to-f64 .ensures) (c .if2 .taken)
+returns-2 c = rate-whole _ _ (c .before .before .before .nearest-index .ensures) (c .before .before .if1 .left) _ (c .before .nearest-u64-to-f64 .ensures) (c .if2 .taken)
 
 returns-3 : tie.Need-returns-3
-unfolding sampleIndex
-returns-3 c = rate-other _ _ (ap (λ (r : SampleIndex). r .index) (c .before .before .before .sample-index .ensures)) (c .before .before .if1 .left) _ (c .before .nearest-u64-to-f64 .ensures) (c .if2 .left)
+returns-3 c = rate-other _ _ (c .before .before .before .nearest-index .ensures) (c .before .before .if1 .left) _ (c .before .nearest-u64-to-f64 .ensures) (c .if2 .left)
 
 pub whole-rate-spec : {M : Type 1} → statement M
 whole-rate-spec =

@@ -12,7 +12,7 @@ use lib.ListN.{length, getD, take, drop, replicate}
 use lib.Seq.{length-take-le, take-at}
 use Rattle.event.specs.declared.MixOrder.{MixOrder}
 use Rattle.event.specs.declared.Placings.{Placings}
-use Rattle.event.specs.Events.{blank}
+use Rattle.event.specs.Blank.{blank}
 use Rattle.event.specs.Placings.{noPlacings}
 use Rattle.floats.specs.Arithmetic.{zeroᶠ}
 use Rattle.ledger.specs.BlockSamples.{Span, channelAfter, afterBlock, overlay}
@@ -23,7 +23,7 @@ use Rattle.sequencer.specs.declared.StepKind.{StepKind}
 use Rattle.sequencer.specs.Parts.{withSounding}
 use Rattle.sequencer.specs.Moves.{advanced}
 use Rattle.sequencer.specs.Rendering.{addBlock, blockPass, addPlaces, placesPass, renderedBlock, renderedPlaces, renderedBlockOut, stepEnd, renderedStep, renderedStepOut}
-use Rattle.sequencer.specs.Answers.{renders}
+use Rattle.sequencer.specs.Outcomes.{renders}
 use Rattle.sequencer.specs.Passing.{Passing, passing-start, passing-stored, passOf, passing-end}
 use Rattle.sequencer.proofs.Sequencer.render.Tie as tie
 use Rattle.sequencer.proofs.Sequencer.render.Proof.Invariants.{With}

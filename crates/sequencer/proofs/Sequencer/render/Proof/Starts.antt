@@ -8,7 +8,8 @@ use mathlib.Core.Path.{_≡_, refl, sym, ap, _∙_}
 use lib.ListN.{getD, set}
 use lib.Ieee.{ofBits}
 use Rattle.lists.specs.declared.EditMap.{EditMap}
-use Rattle.event.specs.Events.{earlier, blank}
+use Rattle.event.specs.Events.{earlier}
+use Rattle.event.specs.Blank.{blank}
 use Rattle.floats.specs.Arithmetic.{_-ᵈ_, _×ᵈ_, halfᶠ}
 use Rattle.ready.specs.Sift.{child}
 use Rattle.ready.specs.Steps.{child-left, child-first, child-second}
