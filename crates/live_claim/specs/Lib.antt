@@ -1,0 +1,3 @@
+-- Everything in this library.
+pub mod LiveCalls
+pub mod Theorem
