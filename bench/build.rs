@@ -1,9 +1,12 @@
-//! Links the port's side: BENCH_ENTRY names the static library that `run` builds.
+//! Links the port's side: BENCH_ENTRY and BENCH_LIVE name the static libraries that `run` builds.
 
 fn main() {
-    let library = std::env::var("BENCH_ENTRY").expect("BENCH_ENTRY names the static library");
     println!("cargo:rerun-if-changed=build.rs");
-    println!("cargo:rerun-if-env-changed=BENCH_ENTRY");
-    println!("cargo:rerun-if-changed={library}");
-    println!("cargo:rustc-link-arg={library}");
+    for name in ["BENCH_ENTRY", "BENCH_LIVE"] {
+        let library =
+            std::env::var(name).unwrap_or_else(|_| panic!("{name} names a static library"));
+        println!("cargo:rerun-if-env-changed={name}");
+        println!("cargo:rerun-if-changed={library}");
+        println!("cargo:rustc-link-arg={library}");
+    }
 }

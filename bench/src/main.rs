@@ -15,6 +15,7 @@ mod tape;
 mod batch;
 mod clips;
 mod clock;
+mod live;
 mod port;
 mod programs;
 mod render;
@@ -425,6 +426,10 @@ fn main() {
     let pool: Arc<[f32]> = (0..POOL).map(|k| (k % 4096) as f32 / 4096.0).collect();
     let arguments: Vec<String> = std::env::args().collect();
     let start = Instant::now();
+    if arguments.get(1).is_some_and(|word| word == "live") {
+        live::tables(&pool);
+        return;
+    }
 
     head("sample loops, ns a sample");
     for channels in [1, 8] {
@@ -473,6 +478,7 @@ fn main() {
     for (what, tape) in tapes::all(1) {
         entry(what, &tape);
     }
+    live::tables(&pool);
     if let [_, ours, theirs, folder] = &arguments[..] {
         head("tapes through the programs, ns a record");
         // Longer ones, so that starting a program counts for little.

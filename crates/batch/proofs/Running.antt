@@ -1,39 +1,36 @@
--- The loop of `push_records`: after each round what is left to do gives what the definition gives. Assumes nothing.
-use Prim.Native.Nat.{ℕ, zero, suc, _+_, _-_, _^_, _%_, min, _≤_, _<_}
-use mathlib.Core.Bool.{Bool, true, false, not, _&&_, _||_, cond, true≢false}
+-- The loop of `push_records`: after each record what is left to do gives what the definition gives. Assumes nothing.
+use Prim.Native.Nat.{ℕ, zero, suc, _+_, _-_, min, _≤_, _<_}
+use mathlib.Core.Bool.{Bool, true, false, not, _||_, cond, true≢false}
 use mathlib.Core.List.{List, [], _∷_, _++_, append-assoc, append-nil}
 use mathlib.Core.Path.{_≡_, refl, sym, ap, ap₂, _∙_, subst}
 use native.Mathlib.Numerals.{add-one}
 use native.Mathlib.Omega.{arith}
-use borrow.Author.Tests.{eqb-true, ltb-false, leb-false, lt-ltb}
-use lib.Dec.{ltb, leb, eqb}
-use lib.Ieee.{Float, lt}
-use lib.Ieee.Scale.{finite}
-use lib.ListN.{length, take, drop, set, length-append, length-drop}
+use borrow.Author.Tests.{eqb-true, ltb-false}
+use lib.Dec.{ltb, eqb}
+use lib.ListN.{length, take, drop, set, getD, length-append, length-drop}
 use native.Mathlib.Nat.{le-of-eq}
 use lib.Seq.{take-all, drop-drop, drop-cons, append-snoc, set-at}
-use Rattle.event.specs.declared.Event.{Event}
-use Rattle.ledger.specs.Calls.{Call, Reply, number, refused}
+use Rattle.ledger.specs.Calls.{Call, Reply, PushKind, number, refused}
 use Rattle.ledger.specs.Steps.{answers}
 use Rattle.ledger.specs.Claim.{acceptedOf}
-use Rattle.event.specs.declared.Source.{Source}
-use Rattle.floats.specs.Arithmetic.{_<ᶠ_}
-use Rattle.ledger.specs.Refusals.{within, withinEnd, finiteSource}
+use Rattle.ledger.specs.Refusals.{statedEnd}
+use Rattle.floats.specs.Arithmetic.{_-ᵈ_}
 use Rattle.refusals.specs.Refusals.{pushRefusal}
+use Rattle.tape.specs.declared.reader.PushRecord.{PushRecord}
 use Rattle.tape.specs.Tape.{kindOf, sizeOf, pushOf, pushKind, unknownPush}
 use Rattle.sequencer.specs.declared.Sequencer.{Sequencer}
-use Rattle.sequencer.specs.Parts.{withReady, withActive, withNext}
-use Rattle.sequencer.specs.Moves.{pushedReady, pushedActive, pushedEvent}
-use Rattle.sequencer.specs.Pushes.{enters, admitted, pushesTo, pushes}
+use Rattle.sequencer.specs.declared.Answer.{Answer}
+use Rattle.sequencer.specs.declared.Outcome.{Outcome}
+use Rattle.sequencer.specs.Pushes.{admitted, pushesTo, pushes}
+use Rattle.memory.specs.Memory.{Cells, engineOf}
 use Rattle.claim.specs.EngineCalls.{engineCall}
-use Rattle.batch.specs.declared.Batch.{Batch}
-use Rattle.batch.specs.declared.Step.{Step}
-use Rattle.batch.specs.declared.Step.the-variants.{Stop, Push}
-use Rattle.batch.specs.Records.{beyond, stopOf, kindAt, callOf}
+use Rattle.apply.specs.Applying as Applying
+use Rattle.apply.specs.Applying.{pushed, pushKindOf}
 use Rattle.apply.specs.RecordCalls.{refusalOf}
+use Rattle.batch.specs.declared.Batch.{Batch}
+use Rattle.batch.specs.Records.{beyond, stopOf, kindAt, callOf}
 use Rattle.batch.specs.Run.{Pushed, ends, behind, pushRun, pushAll, written}
 use Rattle.batch.specs.Contract.{batchOf, pushRecords, numbersAfter}
-use Rattle.batch.specs.Rounds.{recordRefusal, eventOf, stepOf}
 
 -- ---- one record of the definition
 
@@ -54,23 +51,41 @@ module _ {S : Type 0} (call : S → Call → S × Reply) (n : ℕ) (bs : List �
 
 -- ---- one push of the engine
 
-abbrev pub heldIn : Sequencer → ℕ
-heldIn s = min (s .«ready_len» + (s .«active_len» + s .«past_len»)) 256
+abbrev pub refusalAt : Sequencer → PushKind → PushRecord → ℕ
+refusalAt s kind p =
+    let start = p .«start_time» in
+    pushRefusal start (p .«end_time») (statedEnd kind start (p .«end_time») -ᵈ start) (p .«fade_in») (p .«fade_out») (p .source) (p .gain)
+    (min (s .«ready_len» + (s .«active_len» + s .«past_len»)) 256) (s .next)
 
 module _ (s : Sequencer) (bs : List ℕ) where
-  abbrev refusalAt : ℕ
-  refusalAt = recordRefusal (kindAt bs) (pushOf bs) (heldIn s) (s .next)
+  abbrev refusalOn : ℕ
+  refusalOn = refusalAt s (kindAt bs) (pushOf bs)
 
-  engine-refuses : eqb refusalAt 0 ≡ false → engineCall s (callOf bs) ≡ (s, answers (refused refusalAt))
+  abbrev outcome : Outcome
+  outcome = pushed (kindAt bs) s (pushOf bs)
+
+  engine-refuses : eqb refusalOn 0 ≡ false → engineCall s (callOf bs) ≡ (s, answers (refused refusalOn))
   unfolding callOf pushes pushesTo
   engine-refuses h = rw h
 
-  engine-accepts : eqb refusalAt 0 ≡ true
-      → engineCall s (callOf bs) ≡ (enters s (eventOf (kindAt bs) (pushOf bs) (s .time) (s .next)), answers (number (s .next)))
+  engine-accepts : eqb refusalOn 0 ≡ true → engineCall s (callOf bs) ≡ (outcome .sequencer, answers (number (s .next)))
   unfolding callOf pushes pushesTo admitted
   engine-accepts h = rw h
 
--- ---- what a step means for the run
+  outcome-refused : eqb refusalOn 0 ≡ false → (outcome .sequencer ≡ s) × (Applying.refusalOf (outcome .answer) ≡ refusalOn)
+  unfolding pushes pushesTo
+  outcome-refused h = (rw h, rw h)
+
+  outcome-accepted : eqb refusalOn 0 ≡ true → Applying.refusalOf (outcome .answer) ≡ 0
+  unfolding pushes pushesTo admitted
+  outcome-accepted h = rw h
+
+-- a push of the kind that a number names
+pub of-kind : (s : Sequencer) (p : PushRecord) {z k : PushKind} → z ≡ k → {t : Sequencer} {a : Answer}
+    → (t ≡ pushed k s p .sequencer) × (a ≡ pushed k s p .answer) → (t ≡ pushed z s p .sequencer) × (a ≡ pushed z s p .answer)
+of-kind s p e {t} {a} h = subst (λ (y : PushKind). (t ≡ pushed y s p .sequencer) × (a ≡ pushed y s p .answer)) (sym e) h
+
+-- ---- the record that begins the bytes, as a run of one
 
 not-short : (a b c d : Bool) → _≡_ {A = ℕ} (cond a 15 (cond b 14 (cond c 14 (cond d 15 0)))) 0 → d ≡ false
 not-short true b c d h = absurd (omega arith)
@@ -86,57 +101,105 @@ whole-there bs h =
     ltb-false (length bs) (sizeOf (kindOf bs))
     (not-short (eqb (length bs) 0) (not (pushKind (kindOf bs))) (unknownPush bs) (ltb (length bs) (sizeOf (kindOf bs))) h)
 
--- a push that nothing refuses finds fewer than 256 events
-not-full : (a b c d e f : Bool) → _≡_ {A = ℕ} (cond a 3 (cond b 4 (cond c 5 (cond d 18 (cond e 6 (cond f 7 0)))))) 0 → e ≡ false
-not-full true b c d e f h = absurd (omega arith)
-not-full false true c d e f h = absurd (omega arith)
-not-full false false true d e f h = absurd (omega arith)
-not-full false false false true e f h = absurd (omega arith)
-not-full false false false false true f h = absurd (omega arith)
-not-full false false false false false f h = refl
+-- a run that one more record ends, by x: the engine is then t
+abbrev pub Ends : List ℕ → Sequencer → Sequencer → (x : ℕ) → Type 0
+Ends bs s t x = (n : ℕ) → pushRun engineCall (suc n) bs s ≡ ends t x
 
--- of a push's arguments
-has-room : (start end lasts fade-in fade-out : Float) (source : Source) (gain : Float) (held next : ℕ)
-    → pushRefusal start end lasts fade-in fade-out source gain held next ≡ 0 → held < 256
-unfolding pushRefusal
-has-room start end lasts fade-in fade-out source gain held next h =
-    leb-false 256 held
-    (not-full (not (within start && withinEnd end && within fade-in && within fade-out)) (lasts <ᶠ fade-in || lasts <ᶠ fade-out) (not (finiteSource source))
-    (not (finite gain)) (leb 256 held) (eqb next 0) h)
+-- a record that is pushed: it is there whole, and the run goes on after it, on the engine t
+pub record Goes (bs : List ℕ) (s t : Sequencer) : Type 0 where
+  pub whole : sizeOf (kindOf bs) ≤ length bs
+  pub on : (n : ℕ) → pushRun engineCall (suc n) bs s ≡ behind (s .next ∷ []) (pushRun engineCall n (drop (sizeOf (kindOf bs)) bs) t)
 
--- an event that is pushed: it has room, its record is there whole, and the run goes on after it
-pub record Pushes (bs : List ℕ) (s : Sequencer) (e : Event) (size : ℕ) : Type 0 where
-  pub room : s .«ready_len» + (s .«active_len» + s .«past_len») < 256
-  pub inside : size ≤ length bs
-  pub goes : (n : ℕ) → pushRun engineCall (suc n) bs s ≡ behind (s .next ∷ []) (pushRun engineCall n (drop size bs) (enters s e))
+-- what a run of one says of every run: x ended it, or the engine goes on, if x is 0
+abbrev pub Says : List ℕ → Sequencer → Sequencer → (x : ℕ) → Type 0
+Says bs s t x = (eqb x 0 ≡ false → Ends bs s t x) × (eqb x 0 ≡ true → Goes bs s t)
 
-abbrev pub Means : List ℕ → Sequencer → Step → Type 0
-Means bs s (Stop k) = (n : ℕ) → pushRun engineCall (suc n) bs s ≡ ends s k
-Means bs s (Push e size) = Pushes bs s e size
+module _ (bs : List ℕ) (s : Sequencer) where
+  abbrev one : Pushed Sequencer
+  one = pushRun engineCall 1 bs s
 
-means : (bs : List ℕ) (s : Sequencer) → Means bs s (stepOf bs (heldIn s) (s .time) (s .next))
-unfolding stepOf
-means bs s = go (eqb (stopOf bs) 0) refl (eqb (refusalAt s bs) 0) refl
-  where
-    event : Event
-    event = eventOf (kindAt bs) (pushOf bs) (s .time) (s .next)
+  one-stopped : eqb (stopOf bs) 0 ≡ false → one ≡ ends s (stopOf bs)
+  one-stopped h = run-stops engineCall 0 bs s h
 
-    go : (b : Bool) → eqb (stopOf bs) 0 ≡ b → (c : Bool) → eqb (refusalAt s bs) 0 ≡ c
-        → Means bs s (cond b (cond c (Push event (sizeOf (kindOf bs))) (Stop (refusalAt s bs))) (Stop (stopOf bs)))
-    go false h c k = λ n. run-stops engineCall n bs s h
-    go true h false k = λ n. run-refused engineCall n bs s h _ _ (engine-refuses s bs k) k
-    go true h true k = record {
-      room = (let l : heldIn s < 256 = has-room _ _ _ _ _ _ _ _ _ (eqb-true (refusalAt s bs) 0 k) in omega (arith, l));
-      inside = whole-there bs (eqb-true (stopOf bs) 0 h);
-      goes = λ n. run-on engineCall n bs s h _ _ (engine-accepts s bs k) refl;
-    }
+  one-refused : eqb (stopOf bs) 0 ≡ true → eqb (refusalOn s bs) 0 ≡ false → one ≡ ends s (refusalOn s bs)
+  one-refused h k = run-refused engineCall 0 bs s h _ _ (engine-refuses s bs k) k
+
+  one-pushed : eqb (stopOf bs) 0 ≡ true → eqb (refusalOn s bs) 0 ≡ true → one ≡ behind (s .next ∷ []) (ends (outcome s bs .sequencer) 0)
+  unfolding pushRun
+  one-pushed h k = run-on engineCall 0 bs s h _ _ (engine-accepts s bs k) refl
+
+  says : Says bs s (one .state) (one .ended)
+  says = go (eqb (stopOf bs) 0) refl (eqb (refusalOn s bs) 0) refl
+    where
+      go : (b : Bool) → eqb (stopOf bs) 0 ≡ b → (c : Bool) → eqb (refusalOn s bs) 0 ≡ c → Says bs s (one .state) (one .ended)
+      go false h c k =
+          subst (λ (p : Pushed Sequencer). Says bs s (p .state) (p .ended)) (sym (one-stopped h))
+          (λ e n. run-stops engineCall n bs s h, λ e. absurd (true≢false (sym e ∙ h)))
+      go true h false k =
+          subst (λ (p : Pushed Sequencer). Says bs s (p .state) (p .ended)) (sym (one-refused h k))
+          (λ e n. run-refused engineCall n bs s h _ _ (engine-refuses s bs k) k, λ e. absurd (true≢false (sym e ∙ k)))
+      go true h true k =
+          subst (λ (p : Pushed Sequencer). Says bs s (p .state) (p .ended)) (sym (one-pushed h k)) (
+            λ e. absurd (true≢false e),
+            λ e. record {
+              whole = whole-there bs (eqb-true (stopOf bs) 0 h);
+              on = λ n. run-on engineCall n bs s h _ _ (engine-accepts s bs k) refl;
+            },
+          )
+
+  -- a record that stops the run
+  pub stops-one : eqb (stopOf bs) 0 ≡ false → (s ≡ one .state) × (stopOf bs ≡ one .ended)
+  stops-one h = (ap (λ (p : Pushed Sequencer). p .state) (sym (one-stopped h)), ap (λ (p : Pushed Sequencer). p .ended) (sym (one-stopped h)))
+
+  -- any other is a push
+  pub pushes-one : eqb (stopOf bs) 0 ≡ true → (outcome s bs .sequencer ≡ one .state) × (Applying.refusalOf (outcome s bs .answer) ≡ one .ended)
+  pushes-one h = go (eqb (refusalOn s bs) 0) refl
+    where
+      go : (c : Bool) → eqb (refusalOn s bs) 0 ≡ c → (outcome s bs .sequencer ≡ one .state) × (Applying.refusalOf (outcome s bs .answer) ≡ one .ended)
+      go false k = (
+        outcome-refused s bs k .0 ∙ ap (λ (p : Pushed Sequencer). p .state) (sym (one-refused h k)),
+        outcome-refused s bs k .1 ∙ ap (λ (p : Pushed Sequencer). p .ended) (sym (one-refused h k)),
+      )
+      go true k = (
+        ap (λ (p : Pushed Sequencer). p .state) (sym (one-pushed h k)),
+        outcome-accepted s bs k ∙ ap (λ (p : Pushed Sequencer). p .ended) (sym (one-pushed h k)),
+      )
+
+-- what the code has of such a record: its kind and its arguments, read by parts
+pub pushed-one : (bs : List ℕ) (s t : Sequencer) (a : Answer) (kind : ℕ) (p : PushRecord) (x : ℕ) → eqb (stopOf bs) 0 ≡ true
+    → pushKindOf kind ≡ kindAt bs → p ≡ pushOf bs → t ≡ pushed (pushKindOf kind) s p .sequencer → a ≡ pushed (pushKindOf kind) s p .answer
+    → x ≡ Applying.refusalOf a → (t ≡ pushRun engineCall 1 bs s .state) × (x ≡ pushRun engineCall 1 bs s .ended)
+pushed-one bs s t a kind p x h k q e f g = (
+  e ∙ ap₂ (λ (z : PushKind) (y : PushRecord). pushed z s y .sequencer) k q ∙ pushes-one bs s h .0,
+  g ∙ ap Applying.refusalOf (f ∙ ap₂ (λ (z : PushKind) (y : PushRecord). pushed z s y .answer) k q) ∙ pushes-one bs s h .1,
+)
+
+-- the part of the bytes that the code was lent is all of them from the place on
+abbrev pub part : (bs : List ℕ) → (at : ℕ) → List ℕ
+part bs at = take (length bs - at) (drop at bs)
+
+pub part-all : (bs : List ℕ) (at : ℕ) → part bs at ≡ drop at bs
+part-all bs at = take-all (length bs - at) (drop at bs) (le-of-eq (length-drop at bs))
+
+-- what the record at a place means for the run
+pub found : (bs : List ℕ) (at : ℕ) (s t : Sequencer) (x : ℕ) → t ≡ pushRun engineCall 1 (part bs at) s .state → x ≡ pushRun engineCall 1 (part bs at) s .ended
+    → Says (drop at bs) s t x
+found bs at s t x e f =
+    subst (λ (u : Sequencer). Says (drop at bs) s u x) (sym (e ∙ ap (λ (z : List ℕ). pushRun engineCall 1 z s .state) (part-all bs at)))
+    (subst (λ (y : ℕ). Says (drop at bs) s (pushRun engineCall 1 (drop at bs) s .state) y)
+    (sym (f ∙ ap (λ (z : List ℕ). pushRun engineCall 1 z s .ended) (part-all bs at))) (says (drop at bs) s))
+
+-- the next number of the engine that the cells hold
+pub next-in : (c : Cells) → getD (c .numbers) 1286 0 ≡ engineOf c .next
+unfolding engineOf
+next-in c = refl
 
 -- ---- the loop
 
--- what the code gives back and leaves in the slice are the definition's
+-- the engine, what the code gives back and the slice are the definition's
 abbrev pub Result : (count : ℕ) → (bs : List ℕ) → (s₀ : Sequencer) → (xs₀ : List ℕ) → (k : ℕ) → (s : Sequencer) → (xs : List ℕ) → (by : ℕ) → Type 0
 Result count bs s₀ xs₀ k s xs x =
-    (_≡_ {A = Batch} (record { sequencer = s; pushed = k; ended = x }) (pushRecords s₀ bs count xs₀)) × (xs ≡ numbersAfter s₀ bs count xs₀)
+    (s ≡ pushRecords s₀ bs count xs₀ .state) × ((_≡_ {A = Batch} (record { pushed = k; ended = x }) (batchOf (pushRecords s₀ bs count xs₀))) × (xs ≡ numbersAfter s₀ bs count xs₀))
 
 -- After k pushes: the bytes from `at` on are not read yet, s is the engine and xs the lent slice.
 pub record Running (count : ℕ) (bs : List ℕ) (s₀ : Sequencer) (xs₀ : List ℕ) (k at : ℕ) (s : Sequencer) (xs : List ℕ) : Type 0 where
@@ -166,8 +229,8 @@ within-limits count n h = go (ltb 32 count) (eqb n 32) refl refl h
 
 -- refused as 16
 pub all-refused : (count : ℕ) (bs : List ℕ) (s₀ : Sequencer) (xs₀ : List ℕ) → beyond count (length xs₀) ≡ true → Result count bs s₀ xs₀ 0 s₀ xs₀ 16
-unfolding pushRecords numbersAfter pushAll
-all-refused count bs s₀ xs₀ h = (rw h, rw h)
+unfolding pushAll
+all-refused count bs s₀ xs₀ h = (rw h, (rw h, rw h))
 
 module _ {count : ℕ} {bs : List ℕ} {s₀ : Sequencer} {xs₀ : List ℕ} where
   -- before the first round
@@ -189,85 +252,68 @@ module _ {count : ℕ} {bs : List ℕ} {s₀ : Sequencer} {xs₀ : List ℕ} whe
     pub slice-length : Running count bs s₀ xs₀ k at s xs → length xs ≡ length xs₀
     slice-length w = ap length (w .slice) ∙ omega (arith, length-append (w .issued) (drop k xs₀), length-drop k xs₀, w .many, w .total, w .few, w .long)
 
-    -- a round that pushes one more: t is the engine with its event
-    pub running-on : (t : Sequencer) (e : Event) (size : ℕ) → k < count → Pushes (drop at bs) s e size → t ≡ enters s e → Running count bs s₀ xs₀ k at s xs
-        → Running count bs s₀ xs₀ (k + 1) (at + size) t (set xs k (s .next))
-    running-on t e size l p q w = go (w .left) refl
+    -- a record that is pushed, of this size: t is the engine with its event
+    pub running-on : (t : Sequencer) (size y : ℕ) → k < count → Goes (drop at bs) s t → size ≡ sizeOf (kindOf (drop at bs)) → y ≡ s .next
+        → Running count bs s₀ xs₀ k at s xs → Running count bs s₀ xs₀ (k + 1) (at + size) t (set xs k y)
+    running-on t size y l p q v w = go (w .left) refl
       where
         rest : ℕ → Pushed Sequencer
         rest n = pushRun engineCall n (drop (at + size) bs) t
 
-        once : (n : ℕ) → pushRun engineCall (suc n) (drop at bs) s ≡ behind (s .next ∷ []) (rest n)
-        once n = p .goes n ∙ ap₂ (λ (b : List ℕ) (u : Sequencer). behind (s .next ∷ []) (pushRun engineCall n b u)) (drop-drop size at bs) (sym q)
+        once : (n : ℕ) → pushRun engineCall (suc n) (drop at bs) s ≡ behind (y ∷ []) (rest n)
+        once n =
+            p .on n ∙ ap (λ (z : ℕ). behind (s .next ∷ []) (pushRun engineCall n (drop z (drop at bs)) t)) (sym q)
+            ∙ ap₂ (λ (z : ℕ) (b : List ℕ). behind (z ∷ []) (pushRun engineCall n b t)) (sym v) (drop-drop size at bs)
 
-        stored : set xs k (s .next) ≡ (w .issued ++ (s .next ∷ [])) ++ drop (k + 1) xs₀
+        stored : set xs k y ≡ (w .issued ++ (y ∷ [])) ++ drop (k + 1) xs₀
         stored =
-            ap (λ (ys : List ℕ). set ys k (s .next)) (w .slice ∙ ap (λ (ys : List ℕ). w .issued ++ ys) (drop-cons xs₀ k 0 (omega (arith, w .few, w .long))))
-            ∙ set-at (w .issued) _ (drop (suc k) xs₀) (s .next) k (w .many)
-            ∙ sym (append-snoc (w .issued) (s .next) (drop (suc k) xs₀))
-            ∙ ap (λ (j : ℕ). (w .issued ++ (s .next ∷ [])) ++ drop j xs₀) (sym (add-one k))
+            ap (λ (ys : List ℕ). set ys k y) (w .slice ∙ ap (λ (ys : List ℕ). w .issued ++ ys) (drop-cons xs₀ k 0 (omega (arith, w .few, w .long))))
+            ∙ set-at (w .issued) _ (drop (suc k) xs₀) y k (w .many)
+            ∙ sym (append-snoc (w .issued) y (drop (suc k) xs₀))
+            ∙ ap (λ (j : ℕ). (w .issued ++ (y ∷ [])) ++ drop j xs₀) (sym (add-one k))
 
-        go : (n : ℕ) → w .left ≡ n → Running count bs s₀ xs₀ (k + 1) (at + size) t (set xs k (s .next))
+        go : (n : ℕ) → w .left ≡ n → Running count bs s₀ xs₀ (k + 1) (at + size) t (set xs k y)
         go zero z = absurd (omega (arith, w .total, z, l))
         go (suc n) z = record {
-          issued = w .issued ++ (s .next ∷ []);
+          issued = w .issued ++ (y ∷ []);
           left = n;
-          many = omega (arith, length-append (w .issued) (s .next ∷ []), w .many);
+          many = omega (arith, length-append (w .issued) (y ∷ []), w .many);
           total = omega (arith, w .total, z);
           few = w .few;
           long = w .long;
-          inside = place-inside bs at size (w .inside) (p .inside);
+          inside = place-inside bs at size (w .inside) (omega (arith, p .whole, q));
           slice = stored;
           gives =
               w .gives ∙ ap (λ (m : ℕ). behind (w .issued) (pushRun engineCall m (drop at bs) s)) z ∙ ap (behind (w .issued)) (once n)
               ∙ ap (λ (ns : List ℕ). record { state = rest n .state; numbers = ns; ended = rest n .ended })
-              (sym (append-assoc (w .issued) (s .next ∷ []) (rest n .numbers)));
+              (sym (append-assoc (w .issued) (y ∷ []) (rest n .numbers)));
         }
 
     -- ---- how it ends
 
-    result : (x : ℕ) → (w : Running count bs s₀ xs₀ k at s xs) → pushRun engineCall (w .left) (drop at bs) s ≡ ends s x → Result count bs s₀ xs₀ k s xs x
-    unfolding pushRecords numbersAfter
-    result x w h = (
-      ap (λ (n : ℕ). record { sequencer = s; pushed = n; ended = x }) (sym (w .many) ∙ ap length (sym (append-nil (w .issued)))) ∙ ap batchOf (sym all),
-      w .slice ∙ ap₂ (λ (ns : List ℕ) (n : ℕ). ns ++ drop n xs₀) (sym (append-nil (w .issued))) (sym (w .many) ∙ ap length (sym (append-nil (w .issued))))
-          ∙ ap (λ (p : Pushed Sequencer). written (p .numbers) xs₀) (sym all),
+    result : (t : Sequencer) (x : ℕ) (w : Running count bs s₀ xs₀ k at s xs) → pushRun engineCall (w .left) (drop at bs) s ≡ ends t x
+        → Result count bs s₀ xs₀ k t xs x
+    result t x w h = (
+      ap (λ (p : Pushed Sequencer). p .state) (sym all),
+      (
+        ap (λ (n : ℕ). record { pushed = n; ended = x }) (sym (w .many) ∙ ap length (sym (append-nil (w .issued)))) ∙ ap batchOf (sym all),
+        w .slice ∙ ap₂ (λ (ns : List ℕ) (n : ℕ). ns ++ drop n xs₀) (sym (append-nil (w .issued))) (sym (w .many) ∙ ap length (sym (append-nil (w .issued))))
+            ∙ ap (λ (p : Pushed Sequencer). written (p .numbers) xs₀) (sym all),
+      ),
     )
       where
-        all : pushAll engineCall bs count xs₀ s₀ ≡ behind (w .issued) (ends s x)
+        all : pushAll engineCall bs count xs₀ s₀ ≡ behind (w .issued) (ends t x)
         all = w .gives ∙ ap (behind (w .issued)) h
 
     -- every record is done
     pub run-done : count ≤ k → Running count bs s₀ xs₀ k at s xs → Result count bs s₀ xs₀ k s xs 0
     unfolding pushRun
-    run-done l w = let q : w .left ≡ 0 = omega (arith, w .total, l) in result 0 w (ap (λ (m : ℕ). pushRun engineCall m (drop at bs) s) q)
+    run-done l w = let q : w .left ≡ 0 = omega (arith, w .total, l) in result s 0 w (ap (λ (m : ℕ). pushRun engineCall m (drop at bs) s) q)
 
     -- a record, or its refusal, ends it
-    pub run-ended : (x : ℕ) → k < count → Means (drop at bs) s (Stop x) → Running count bs s₀ xs₀ k at s xs → Result count bs s₀ xs₀ k s xs x
-    run-ended x l m w = go (w .left) refl
+    pub run-ended : (t : Sequencer) (x : ℕ) → k < count → Ends (drop at bs) s t x → Running count bs s₀ xs₀ k at s xs → Result count bs s₀ xs₀ k t xs x
+    run-ended t x l m w = go (w .left) refl
       where
-        go : (n : ℕ) → w .left ≡ n → Result count bs s₀ xs₀ k s xs x
+        go : (n : ℕ) → w .left ≡ n → Result count bs s₀ xs₀ k t xs x
         go zero q = absurd (omega (arith, w .total, q, l))
-        go (suc n) q = result x w (ap (λ (i : ℕ). pushRun engineCall i (drop at bs) s) q ∙ m n)
-
--- ---- the step that the code has found
-
--- the part of the bytes that it was lent is all of them from the place on
-pub found : (bs : List ℕ) (at : ℕ) (s : Sequencer) (st : Step) (n : ℕ) → n ≡ heldIn s → st ≡ stepOf (take (length bs - at) (drop at bs)) n (s .time) (s .next)
-    → (x : Step) → st ≡ x → Means (drop at bs) s x
-found bs at s st n h q x e =
-    subst (Means (drop at bs) s)
-    (ap₂ (λ (part : List ℕ) (m : ℕ). stepOf part m (s .time) (s .next))
-    (sym (take-all (length bs - at) (drop at bs) (le-of-eq (length-drop at bs)))) (sym h) ∙ sym q ∙ e) (means (drop at bs) s)
-
--- ---- the engine with one more event, as the code leaves it
-
-module _ (s : Sequencer) (e : Event) (x : ℕ) where
-  pub entered-active : s .«active_len» < 256 → lt (e .«start_time») (s .«active_threshold») ≡ true → x ≡ (s .next + 1) % 2 ^ 64
-      → withActive (withNext s x) (set (s .active) (s .«active_len») e) (set (s .«active_map») (s .«active_len») (e .id)) (s .«active_len» + 1) ≡ enters s e
-  unfolding pushedEvent pushedActive
-  entered-active l h q = rw (h, lt-ltb _ _ l, ← q)
-
-  pub entered-ready : lt (e .«start_time») (s .«active_threshold») ≡ false → x ≡ (s .next + 1) % 2 ^ 64 → pushedReady (withNext s x) e ≡ enters s e
-  unfolding pushedEvent pushedReady
-  entered-ready h q = rw (h, ← q)
+        go (suc n) q = result t x w (ap (λ (i : ℕ). pushRun engineCall i (drop at bs) s) q ∙ m n)

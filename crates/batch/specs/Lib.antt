@@ -1,5 +1,4 @@
 pub mod Records
 pub mod Run
 pub mod Contract
-pub mod Rounds
 pub mod Cases

@@ -18,7 +18,7 @@ use lib.Ieee.{Float, binary32, ofBits}
 use Rattle.batch.specs.Records.{beyond, stopOf, callOf}
 use Rattle.apply.specs.RecordCalls.{refusalOf}
 use Rattle.batch.specs.Run.{Pushed, ends, behind, pushRun, pushAll, written}
-use Rattle.batch.specs.Contract.{batchOf, pushRecords, numbersAfter}
+use Rattle.batch.specs.Contract.{pushRecords, numbersAfter}
 use Rattle.sequencer.specs.declared.Sequencer.{Sequencer}
 use Rattle.claim.specs.EngineCalls.{engineCall}
 use Rattle.batch_claim.specs.Extent.{reach, bytesRead, callReads}
@@ -261,13 +261,11 @@ module _ {S : Type 0} (call : S → Call → S × Reply) where
   call-reads-no-further bs more count slice s h =
       sym (call-reads-alone bs (bs ++ more) count slice s (sym (take-append-le (callReads call bs count slice s) bs more h)))
 
--- and so with what `push_records` gives back, and leaves in the lent slice, on every engine
+-- and so with the engine that `push_records` leaves, what it gives back, and the lent slice, on every engine
 module _ (s : Sequencer) (bs cs : List ℕ) (count : ℕ) (slice : List ℕ)
     (h : take (callReads engineCall bs count slice s) bs ≡ take (callReads engineCall bs count slice s) cs) where
   pub records-alone : pushRecords s bs count slice ≡ pushRecords s cs count slice
-  unfolding pushRecords
-  records-alone = ap batchOf (call-reads-alone engineCall bs cs count slice s h)
+  records-alone = call-reads-alone engineCall bs cs count slice s h
 
   pub numbers-alone : numbersAfter s bs count slice ≡ numbersAfter s cs count slice
-  unfolding numbersAfter
   numbers-alone = ap (λ (p : Pushed Sequencer). written (p .numbers) slice) (call-reads-alone engineCall bs cs count slice s h)

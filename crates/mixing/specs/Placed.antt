@@ -46,10 +46,6 @@ fadesIn b e = zeroᶠ <ᶠ e .«fade_in» && b .clock <ᶠ (e .«start_time» +�
 abbrev pub fadesOut : Span → Event → Bool
 fadesOut b e = zeroᶠ <ᶠ e .«fade_out» && (e .«end_time» -ᵈ e .«fade_out») <ᶠ b .upto
 
--- whether an event sounds in all places of the block, which has some
-abbrev pub goesThrough : Span → Event → Bool
-goesThrough b e = ltb 0 (b .size) && (e .«start_time» ≤ᶠ b .clock && b .upto ≤ᶠ e .«end_time»)
-
 -- a block changes of an event no more than the value and the place of its source
 pub source-moves : (b : Span) (e : Event) → withUnit (record { source = e .unit .source; value = afterBlock b e .unit .value; place = afterBlock b e .unit .place }) e ≡ afterBlock b e
 unfolding afterBlock

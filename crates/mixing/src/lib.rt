@@ -12,7 +12,7 @@ ghost use Rattle.ledger.specs.BlockSamples.{phaseAt, phaseStep, runFadedIn, run
 ghost use Rattle.ledger.specs.Places.{fadeInPlacings, fadeOutPlacings, eventPlacings};
 ghost use Rattle.mixing.specs.Blocks.{asSpan, clearedPlaces};
 ghost use Rattle.mixing.specs.LeftOut.{tickFaded};
-ghost use Rattle.mixing.specs.Placed.{placingOf, roundedPlace, raisedPlace, firstOf, endOf, fadeInOf, fadeOutOf, fadesIn, fadesOut, goesThrough};
+ghost use Rattle.mixing.specs.Placed.{placingOf, roundedPlace, raisedPlace, firstOf, endOf, fadeInOf, fadeOutOf, fadesIn, fadesOut};
 use event::Event;
 use event::Fade;
 use event::Placing;
@@ -381,58 +381,6 @@ pub fn process_event(event: Event, span: Span, pool: &[f32], channel: &mut [f32]
         return add_run(event, span, s, z, pool, &mut row[0..m], channel);
     }
     unit
-}
-
-// Whether the event sounds in all places of the block, which has some.
-fn is_through(event: Event, span: Span) -> bool
-    ensures { λ r. ⌜ r ≡ goesThrough (asSpan span) event ⌝ }
-{
-    if span.size == 0 {
-        return false;
-    }
-    if event.start_time <= span.clock {
-        return span.upto <= event.end_time;
-    }
-    false
-}
-
-// The event, field by field: a caller that does not hand its own on keeps its fields in registers, and copies it only where this is called.
-fn copied(event: Event) -> Event
-    ensures { λ r. ⌜ r ≡ event ⌝ }
-{
-    let unit = event.unit;
-    let source = unit.source;
-    let fade_ease = event.fade_ease;
-    let id = event.id;
-    Event {
-        start_time: event.start_time,
-        end_time: event.end_time,
-        fade_in: event.fade_in,
-        fade_out: event.fade_out,
-        fade_ease: fade_ease,
-        unit: Unit {
-            source: source,
-            value: unit.value,
-            place: unit.place,
-        },
-        gain: event.gain,
-        id: id,
-    }
-}
-
-// The same. An event that goes through the block without a fade, as most do, is added at once.
-pub fn add_event(event: Event, span: Span, pool: &[f32], channel: &mut [f32]) -> Unit
-    ensures { λ r. ⌜ (r ≡ afterBlock (asSpan span) event .unit) × (now (channel .exit) ≡ channelAfter (now (pool .entry)) (asSpan span) event (now (channel .entry))) ⌝ }
-{
-    if is_through(event, span) {
-        let n = least(64, span.size);
-        if is_plain(event, span, n, channel.len()) {
-            let unit = event.unit;
-            return add_plain(unit, event.gain, 0, n, pool, channel);
-        }
-    }
-    let event = copied(event);
-    process_event(event, span, pool, channel)
 }
 
 // ---- how a block's places came (document 02, Paper 12)

@@ -2,7 +2,7 @@
 use mathlib.Core.Bool.{Bool, true, false, cond}
 use mathlib.Core.Path.{_≡_, refl, sym, ap, _∙_, subst}
 use mathlib.Core.List.{List, [], _∷_, _++_, map, Perm·refl, Perm·symm, perm-append-singleton}
-use Prim.Native.Nat.{ℕ, suc, _+_, _-_, min, _≤_, _<_}
+use Prim.Native.Nat.{ℕ, zero, suc, _+_, _-_, min, _≤_, _<_}
 use native.Mathlib.Omega.{arith}
 use native.Mathlib.Numerals.{add-one}
 use lib.ListN.{length, getD, take, length-append, length-take, List·getD-append}
@@ -10,6 +10,9 @@ use lib.Seq.{take-suc, take-all, getD-take, getD-append-add}
 use Rattle.event.specs.declared.Event.{Event}
 use Rattle.event.specs.Blank.{blank}
 use Rattle.sequencer.specs.declared.Sequencer.{Sequencer}
+use Rattle.memory.specs.Rows.{rows}
+use Rattle.memory.specs.Memory.{Cells, eventAt, slotOf, engineOf}
+use Rattle.memory.specs.Laws.{counts-are, waits-read, sounds-read, finished-read}
 use Rattle.ready.specs.Sift.{rise}
 use Rattle.ready.specs.HeapOrder.{Heap-ordered}
 use Rattle.ready.specs.Stands.{Stands, stands-push}
@@ -139,3 +142,49 @@ module _ (s : Sequencer) (z : Sized s) (w a h : ℕ) (e : Ends s w a h) where
   at-finished i p q =
       ap (λ (n : ℕ). getD (s .past) (i - n) blank) (e .sounding)
       ∙ in-third (s .ready) (s .active) (s .past) (s .«ready_len») (s .«active_len») (s .«past_len») (z .ready) (z .active) (z .past) i (omega (arith, e .sounding)) (omega (arith, e .finished))
+
+-- ---- the engine that four arrays hold
+
+rows-length : {A : Type 0} (g : ℕ → A) (i n : ℕ) → length (rows g i n) ≡ n
+unfolding rows
+rows-length g i zero = refl
+rows-length g i (suc n) = ap suc (rows-length g (suc i) n)
+
+module _ (c : Cells) where
+  pub sized-engine : Sized (engineOf c)
+  unfolding engineOf
+  sized-engine = record { ready = rows-length (eventAt c) 0 256; active = rows-length (eventAt c) 256 256; past = rows-length (eventAt c) 512 256 }
+
+  abbrev s : Sequencer
+  s = engineOf c
+
+  -- the counts, as the code reads them
+  pub count-waits : (w : ℕ) → w ≡ min (getD (c .numbers) 1280 0) 256 → w ≡ min (s .«ready_len») 256
+  count-waits w p = p ∙ ap (λ (m : ℕ). min m 256) (counts-are c .0)
+
+  pub ends-read : (w a f : ℕ) → w ≡ min (getD (c .numbers) 1280 0) 256 → a ≡ min (getD (c .numbers) 1281 0) 256 → f ≡ min (getD (c .numbers) 1282 0) 256 → Ends s w (w + a) (w + a + f)
+  ends-read w a f p q r =
+      let n = counts-are c in
+      let x = count-waits w p in
+      let y : a ≡ min (s .«active_len») 256 = q ∙ ap (λ (m : ℕ). min m 256) (n .1) in
+      let z : f ≡ min (s .«past_len») 256 = r ∙ ap (λ (m : ℕ). min m 256) (n .2) in
+      record { waiting = x; sounding = omega (arith, x, y); finished = omega (arith, x, y, z) }
+
+  -- as `held_event` asks for them
+  pub ends-asked : (w a : ℕ) → w ≡ min (s .«ready_len») 256 → a ≡ w + min (s .«active_len») 256 → Ends s w a (a + min (s .«past_len») 256)
+  ends-asked w a p q = record { waiting = p; sounding = omega (arith, p, q); finished = omega (arith, p, q) }
+
+  pub asked-at : (i w a h : ℕ) → Ends s w a h → i < h → (a ≡ w + min (s .«active_len») 256) × (i < a + min (s .«past_len») 256)
+  asked-at i w a h n p = (omega (arith, n .waiting, n .sounding), omega (arith, n .sounding, n .finished))
+
+  module _ (i w a h : ℕ) (e : Event) (n : Ends s w a h) where
+    pub held-waiting : i < w → e ≡ eventAt c (slotOf (0 + i)) → e ≡ getD (heldIn s) i blank
+    held-waiting p q =
+        let z : 0 + i ≡ i = omega arith in
+        q ∙ ap (λ (k : ℕ). eventAt c (slotOf k)) z ∙ waits-read c i blank (omega (arith, n .waiting)) ∙ at-waiting s sized-engine w a h n i p
+
+    pub held-sounding : w ≤ i → i < a → e ≡ eventAt c (slotOf (256 + (i - w))) → e ≡ getD (heldIn s) i blank
+    held-sounding p l q = q ∙ sounds-read c (i - w) blank (omega (arith, n .waiting, n .sounding)) ∙ at-sounding s sized-engine w a h n i p l
+
+    pub held-finished : a ≤ i → i < h → e ≡ eventAt c (slotOf (512 + (i - a))) → e ≡ getD (heldIn s) i blank
+    held-finished p l q = q ∙ finished-read c (i - a) blank (omega (arith, n .sounding, n .finished)) ∙ at-finished s sized-engine w a h n i p l

@@ -19,7 +19,9 @@ use Rattle.overlap.specs.declared.FirstWaiting.{FirstWaiting}
 use Rattle.overlap.specs.declared.FirstWaiting.the-variants as first
 use Rattle.overlap.specs.Stretch.{those, inOrder, startsFrom, firstOf, firstAnswer}
 use Rattle.overlap.specs.Reading.{firstRead}
-use Rattle.overlap.proofs.Gathering.{passing, failing}
+use Rattle.memory.specs.Memory.{Cells, eventAt, slotOf, engineOf}
+use Rattle.memory.specs.Laws.{waits-read}
+use Rattle.overlap.proofs.Gathering.{passing, failing, sized-engine}
 
 insertAll-last : (a w : List Event) (e : Event) → insertAll (a ++ (e ∷ [])) w ≡ insert e (insertAll a w)
 unfolding insertAll
@@ -103,6 +105,12 @@ module _ (t : Float) (s : Sequencer) where
     pub no-first : (b : Bool) (f : Event) → b ≡ false → Best b f (seen (startsFrom t) heap i) → first.Nothing ≡ firstRead t s
     no-first b f k g = read [] (subst (λ (x : Bool). Best x f (seen (startsFrom t) heap i)) k g)
 
-  -- the event that the code takes
-  pub heap-at : (n i : ℕ) → length (s .ready) ≡ 256 → n ≡ min (s .«ready_len») 256 → i < n → (i < length (take (s .«ready_len») (s .ready))) × (getD (s .ready) i blank ≡ getD (take (s .«ready_len») (s .ready)) i blank)
-  heap-at n i z k p = (omega (arith, length-take (s .«ready_len») (s .ready)), sym (getD-take (s .«ready_len») (s .ready) i blank (omega arith)))
+-- the event that the code takes
+pub heap-at : (c : Cells) (n i : ℕ) (e : Event) → n ≡ min (engineOf c .«ready_len») 256 → i < n → e ≡ eventAt c (slotOf (0 + i))
+    → (i < length (take (engineOf c .«ready_len») (engineOf c .ready))) × (e ≡ getD (take (engineOf c .«ready_len») (engineOf c .ready)) i blank)
+heap-at c n i e k p q =
+    let s = engineOf c in
+    let z : 0 + i ≡ i = omega arith in (
+      omega (arith, length-take (s .«ready_len») (s .ready), sized-engine c .ready),
+      q ∙ ap (λ (j : ℕ). eventAt c (slotOf j)) z ∙ waits-read c i blank (omega arith) ∙ sym (getD-take (s .«ready_len») (s .ready) i blank (omega arith)),
+    )

@@ -1,13 +1,16 @@
-// Document 02, Paper 4: the clips of a stretch of time, and the first waiting event from a given time on. Both only read the engine, and answer a few words.
+// Document 02, Paper 4: the clips of a stretch of time, and the first waiting event from a given time on. Both only read the engine that four lent arrays
+// hold (crate `memory`), and answer a few words.
 ghost use mathlib.Core.Path.{_≡_};
 ghost use mathlib.Core.List.{map};
-ghost use Prim.Native.Nat.{_+_, _*_, _<_};
+ghost use Prim.Native.Nat.{_+_, _*_, _<_, min};
 ghost use lib.ListN.{length, getD};
 ghost use Rattle.floats.specs.Floats.{sooner};
+ghost use Rattle.event.specs.Blank.{blank};
 ghost use Rattle.event.specs.Events.{numberOf};
 ghost use Rattle.ready.specs.Stands.{Stands};
 ghost use Rattle.overlap.specs.Stretch.{those, inStretch, clipsOf, written, clipsAnswer, clipsListed};
 ghost use Rattle.ledger.specs.Lists.{numbers as numbersOf};
+ghost use Rattle.memory.specs.Memory.{before, cellsOf, engineOf};
 ghost use Rattle.overlap.specs.Reading.{heldIn, firstRead};
 ghost use Rattle.ready.specs.Sift.{rise, child, sink};
 ghost use Rattle.overlap.specs.Keys.{keyOf, keyLess, noKey, pairs};
@@ -15,8 +18,19 @@ ghost use Rattle.overlap.specs.Draining.{Drainable, drained};
 use event::Event;
 use event::EventId;
 use floats::Order;
+use memory::ACTIVE;
+use memory::FINISHED;
+use memory::Levels;
+use memory::Marks;
+use memory::Numbers;
+use memory::PAST;
+use memory::READY;
+use memory::ROOM;
+use memory::SOUNDING;
+use memory::Times;
+use memory::WAITING;
+use memory::event_at;
 use runs::least;
-use sequencer::Sequencer;
 
 // How many clips the stretch has, or a refusal: 17.
 pub enum Found {
@@ -31,7 +45,7 @@ pub enum FirstWaiting {
     Refused(u64),
 }
 
-// ---- a heap of keys: place i has the start `starts[i]` and the number `numbers[i]`
+// ---- a heap of keys, of its own: it sorts starts and numbers, and moves no event. Place i has the start `starts[i]` and the number `numbers[i]`
 
 // Whether (a, i) comes before (b, j), by start and then by lower number.
 fn is_sooner(a: f64, i: u64, b: f64, j: u64) -> bool
@@ -48,7 +62,8 @@ fn is_sooner(a: f64, i: u64, b: f64, j: u64) -> bool
 // The key goes up from place n, past every one that it precedes.
 fn sift_up(starts: &mut [f64], numbers: &mut [u64], n: usize, start: f64, number: u64)
     requires { ⌜ n < length (now starts) ⌝ ∗ ⌜ length (now starts) ≡ length (now numbers) ⌝ }
-    ensures { λ _. ⌜ pairs (now (starts .exit)) (now (numbers .exit)) ≡ rise keyLess noKey n (pairs (now (starts .entry)) (now (numbers .entry))) n (start, number) ⌝ }
+    ensures { λ _. ⌜ pairs (now (starts .exit)) (now (numbers .exit))
+        ≡ rise keyLess noKey n (pairs (now (starts .entry)) (now (numbers .entry))) n (start, number) ⌝ }
 {
     let mut i = n;
     while 0 < i {
@@ -84,7 +99,8 @@ fn first_child(starts: &[f64], numbers: &[u64], m: usize, i: usize) -> usize
 // The first of m + 1 leaves: its place is filled from below, and from where that ends the last goes up.
 fn sift_down(starts: &mut [f64], numbers: &mut [u64], m: usize)
     requires { ⌜ m < length (now starts) ⌝ ∗ ⌜ length (now starts) ≡ length (now numbers) ⌝ }
-    ensures { λ _. ⌜ (let ks = pairs (now (starts .entry)) (now (numbers .entry)) in pairs (now (starts .exit)) (now (numbers .exit)) ≡ sink keyLess noKey m ks m 0 (getD ks m noKey)) ⌝ }
+    ensures { λ _. ⌜ (let ks = pairs (now (starts .entry)) (now (numbers .entry)) in pairs (now (starts .exit)) (now (numbers .exit))
+        ≡ sink keyLess noKey m ks m 0 (getD ks m noKey)) ⌝ }
 {
     let start = starts[m];
     let number = numbers[m];
@@ -135,29 +151,54 @@ fn overlaps(event: Event, from: f64, to: f64) -> bool
     false
 }
 
-// A heap of the keys of the held events in the stretch, and how many they are.
-fn gather(s: Sequencer, from: f64, to: f64, starts: &mut [f64], numbers: &mut [u64]) -> usize
-    requires { ⌜ length (now starts) ≡ 768 ⌝ ∗ ⌜ length (now numbers) ≡ 768 ⌝ }
-    ensures { λ r. ⌜ Stands keyLess noKey (pairs (now (starts .exit)) (now (numbers .exit))) r (map keyOf (those (inStretch from to) (heldIn s))) ⌝ }
+// The event held at place i: of those that wait, after these of the sounding, and after these of the finished.
+fn held_event(
+    times: &Times,
+    levels: &Levels,
+    marks: &Marks,
+    numbers: &Numbers,
+    i: usize,
+    waiting: usize,
+    sounding: usize,
+) -> Event
+    requires { ⌜ waiting ≡ min (engineOf (cellsOf (now times) (now levels) (now marks) (now numbers)) .«ready_len») 256 ⌝
+        ∗ ⌜ sounding ≡ waiting + min (engineOf (cellsOf (now times) (now levels) (now marks) (now numbers)) .«active_len») 256 ⌝
+        ∗ ⌜ i < sounding + min (engineOf (cellsOf (now times) (now levels) (now marks) (now numbers)) .«past_len») 256 ⌝ }
+    ensures { λ r. ⌜ r ≡ getD (heldIn (engineOf (before times levels marks numbers))) i blank ⌝ }
 {
-    let waiting = least(s.ready_len, 256);
-    let sounding = waiting + least(s.active_len, 256);
-    let held = sounding + least(s.past_len, 256);
+    if i < waiting {
+        return event_at(times, levels, marks, numbers, READY + i);
+    }
+    if i < sounding {
+        return event_at(times, levels, marks, numbers, ACTIVE + (i - waiting));
+    }
+    event_at(times, levels, marks, numbers, PAST + (i - sounding))
+}
+
+// A heap of the keys of the held events in the stretch, and how many they are.
+fn gather(
+    times: &Times,
+    levels: &Levels,
+    marks: &Marks,
+    numbers: &Numbers,
+    from: f64,
+    to: f64,
+    starts: &mut [f64],
+    ids: &mut [u64],
+) -> usize
+    requires { ⌜ length (now starts) ≡ 768 ⌝ ∗ ⌜ length (now ids) ≡ 768 ⌝ }
+    ensures { λ r. ⌜ Stands keyLess noKey (pairs (now (starts .exit)) (now (ids .exit))) r
+        (map keyOf (those (inStretch from to) (heldIn (engineOf (before times levels marks numbers))))) ⌝ }
+{
+    let waiting = least(numbers[WAITING] as usize, ROOM);
+    let sounding = waiting + least(numbers[SOUNDING] as usize, ROOM);
+    let held = sounding + least(numbers[FINISHED] as usize, ROOM);
     let mut count = 0;
     let mut i = 0;
     while i < held {
-        let mut event = s.ready[0];
-        if i < waiting {
-            event = s.ready[i];
-        } else {
-            if i < sounding {
-                event = s.active[i - waiting];
-            } else {
-                event = s.past[i - sounding];
-            }
-        }
+        let event = held_event(times, levels, marks, numbers, i, waiting, sounding);
         if overlaps(event, from, to) {
-            sift_up(starts, numbers, count, start_of(event), number_of(event));
+            sift_up(starts, ids, count, start_of(event), number_of(event));
             count = count + 1;
         }
         i = i + 1;
@@ -165,21 +206,25 @@ fn gather(s: Sequencer, from: f64, to: f64, starts: &mut [f64], numbers: &mut [u
     count
 }
 
-// Counts and lists the clips of a stretch, with two rows of 768 as working memory: three arrays hold no more.
+// Counts and lists the clips of a stretch, with two rows of 768 as working memory: three lists hold no more.
 fn list_clips(
-    s: Sequencer,
+    times: &Times,
+    levels: &Levels,
+    marks: &Marks,
+    numbers: &Numbers,
     from: f64,
     to: f64,
     starts: &mut [f64],
-    numbers: &mut [u64],
+    ids: &mut [u64],
     out: &mut [u64],
 ) -> usize
-    requires { ⌜ length (now starts) ≡ 768 ⌝ ∗ ⌜ length (now numbers) ≡ 768 ⌝ ∗ ⌜ length (now out) ≡ 256 ⌝ }
-    ensures counted { λ r. ⌜ r ≡ length (clipsOf from to (heldIn s)) ⌝ }
-    ensures listed { λ r. ⌜ now (out .exit) ≡ written (numbersOf (clipsOf from to (heldIn s))) (now (out .entry)) ⌝ }
+    requires { ⌜ length (now starts) ≡ 768 ⌝ ∗ ⌜ length (now ids) ≡ 768 ⌝ ∗ ⌜ length (now out) ≡ 256 ⌝ }
+    ensures counted { λ r. ⌜ r ≡ length (clipsOf from to (heldIn (engineOf (before times levels marks numbers)))) ⌝ }
+    ensures listed { λ r. ⌜ now (out .exit)
+        ≡ written (numbersOf (clipsOf from to (heldIn (engineOf (before times levels marks numbers))))) (now (out .entry)) ⌝ }
 {
-    let count = gather(s, from, to, starts, numbers);
-    drain_sorted(starts, numbers, count, least(count, 256), out);
+    let count = gather(times, levels, marks, numbers, from, to, starts, ids);
+    drain_sorted(starts, ids, count, least(count, 256), out);
     count
 }
 
@@ -198,9 +243,17 @@ fn no_numbers() -> [u64; 768]
 // ---- the calls
 
 // The held events with start < `to` and end > `from`, counted, and listed by start then number.
-pub fn clips(s: Sequencer, from: f64, to: f64, out: &mut [u64]) -> Found
-    ensures answer { λ r. ⌜ r ≡ clipsAnswer from to (now (out .entry)) (heldIn s) ⌝ }
-    ensures lent { λ r. ⌜ now (out .exit) ≡ clipsListed from to (now (out .entry)) (heldIn s) ⌝ }
+pub fn clips(
+    times: &Times,
+    levels: &Levels,
+    marks: &Marks,
+    numbers: &Numbers,
+    from: f64,
+    to: f64,
+    out: &mut [u64],
+) -> Found
+    ensures answer { λ r. ⌜ r ≡ clipsAnswer from to (now (out .entry)) (heldIn (engineOf (before times levels marks numbers))) ⌝ }
+    ensures lent { λ r. ⌜ now (out .exit) ≡ clipsListed from to (now (out .entry)) (heldIn (engineOf (before times levels marks numbers))) ⌝ }
 {
     if !(from < to) {
         return Found::Refused(17);
@@ -209,24 +262,40 @@ pub fn clips(s: Sequencer, from: f64, to: f64, out: &mut [u64]) -> Found
         return Found::Refused(17);
     }
     let mut starts = no_starts();
-    let mut numbers = no_numbers();
-    let count = list_clips(s, from, to, &mut starts, &mut numbers, out);
+    let mut ids = no_numbers();
+    let count = list_clips(
+        times,
+        levels,
+        marks,
+        numbers,
+        from,
+        to,
+        &mut starts,
+        &mut ids,
+        out,
+    );
     Found::Clips(count)
 }
 
 // The first waiting event, by start then number, that starts at `time` or later.
-pub fn first_from(s: Sequencer, time: f64) -> FirstWaiting
-    ensures { λ r. ⌜ r ≡ firstRead time s ⌝ }
+pub fn first_from(
+    times: &Times,
+    levels: &Levels,
+    marks: &Marks,
+    numbers: &Numbers,
+    time: f64,
+) -> FirstWaiting
+    ensures { λ r. ⌜ r ≡ firstRead time (engineOf (before times levels marks numbers)) ⌝ }
 {
     if time != time {
         return FirstWaiting::Refused(17);
     }
-    let n = least(s.ready_len, 256);
+    let n = least(numbers[WAITING] as usize, ROOM);
     let mut found = false;
-    let mut first = s.ready[0];
+    let mut first = event_at(times, levels, marks, numbers, READY);
     let mut i = 0;
     while i < n {
-        let event = s.ready[i];
+        let event = event_at(times, levels, marks, numbers, READY + i);
         if time <= event.start_time {
             if found {
                 if event.precedes(first) {

@@ -1,2 +1,2 @@
-pub mod Rolling
-pub mod Searching
+mod Carried
+mod Rolling

@@ -35,7 +35,7 @@ abbrev pub stops : Sequencer → Cursor → List ℕ → Pause → Ran
 stops s c bytes p = record { sequencer = s; cursor = c; written = bytes; pause = p }
 
 abbrev pub answerOf : Ran → Played
-answerOf r = record { sequencer = r .sequencer; cursor = r .cursor; used = length (r .written); pause = r .pause }
+answerOf r = record { cursor = r .cursor; used = length (r .written); pause = r .pause }
 
 -- more is written before
 abbrev pub behind : List ℕ → Ran → Ran

@@ -63,3 +63,24 @@ module _ {A : Type 0} (less : A → A → Bool) (z : A) where
 
     pub counted-stop : 0 < i → less e (getD ys (parent i) z) ≡ false → Counting xs ys i e k total → k ≡ total
     counted-stop p h c = let r = levels-stop (c .fuel) xs i e (ap (less e) (sym (c .same (parent i) (omega arith))) ∙ h) in omega (arith, r, c .gives)
+
+  -- ---- a loop that counts them and moves nothing
+
+  pub record Climbing (xs : List A) (i : ℕ) (e : A) (k total : ℕ) : Type 0 where
+    pub fuel : ℕ
+    pub enough : i ≤ fuel
+    pub gives : k + levels fuel xs i e ≡ total
+
+  module _ {xs : List A} {i : ℕ} {e : A} {k total : ℕ} where
+    pub climbing-on : 0 < i → less e (getD xs (parent i) z) ≡ true → Climbing xs i e k total → Climbing xs (parent i) e (k + 1) total
+    climbing-on p h c = go (c .fuel) (c .enough) (c .gives)
+      where
+        go : (f : ℕ) → i ≤ f → k + levels f xs i e ≡ total → Climbing xs (parent i) e (k + 1) total
+        go zero l g = absurd (omega arith)
+        go (suc f) l g = record { fuel = f; enough = omega arith; gives = let t = levels-turn f xs i e p h in omega (arith, t, g) }
+
+    pub climbed-root : i ≤ 0 → Climbing xs i e k total → k ≡ total
+    climbed-root l c = let r = levels-root (c .fuel) xs i e l in omega (arith, r, c .gives)
+
+    pub climbed-stop : less e (getD xs (parent i) z) ≡ false → Climbing xs i e k total → k ≡ total
+    climbed-stop h c = let r = levels-stop (c .fuel) xs i e h in omega (arith, r, c .gives)

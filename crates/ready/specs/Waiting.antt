@@ -1,6 +1,6 @@
 -- What the calls of the waiting heap give, for every heap. A count above 256 is corrupt, and nothing changes.
 use mathlib.Core.Bool.{_&&_, cond}
-use Prim.Native.Nat.{_+_, _-_}
+use Prim.Native.Nat.{ℕ, _+_, _-_}
 use lib.Dec.{ltb, leb}
 use lib.ListN.{getD, replicate}
 use Rattle.floats.specs.Arithmetic.{zeroᶠ}
@@ -11,6 +11,7 @@ use Rattle.event.specs.Events.{earlier}
 use Rattle.event.specs.Blank.{blank}
 use Rattle.ready.specs.declared.Ready.{Ready}
 use Rattle.ready.specs.Sift.{rise, sink}
+use Rattle.ready.specs.Levels.{levels}
 
 -- what fills the places of a new heap
 abbrev pub unused : Event
@@ -34,6 +35,10 @@ peeked h = getD (h .items) 0 blank
 -- e rises from the first free place
 unfoldable pub pushed : Ready → Event → Ready
 pushed h e = cond (ltb (h .len) 256) (record { items = rise earlier blank (h .len) (h .items) (h .len) e; len = h .len + 1 }) h
+
+-- how many levels it rises
+abbrev pub risenBy : Ready → Event → ℕ
+risenBy h e = cond (ltb (h .len) 256) (levels earlier blank (h .len) (h .items) (h .len) e) 0
 
 -- the first place is filled from below, and the last rises from where that ends
 unfoldable pub popped : Ready → Ready

@@ -1,7 +1,7 @@
 // The waiting heap, `ready: BinaryHeap<Event>` of src/sequencer.rs: the event that starts first stands at place 0, and of equal starts that of the lower number.
 // `Event::precedes` is the only comparison. A count above 256 is corrupt: push and pop then change nothing.
 ghost use mathlib.Core.Path.{_≡_};
-ghost use Rattle.ready.specs.Waiting.{emptied, peeked, pushed, popped};
+ghost use Rattle.ready.specs.Waiting.{emptied, peeked, pushed, popped, risenBy};
 use event::Event;
 use event::EventId;
 use event::Fade;
@@ -66,6 +66,28 @@ impl Ready {
         self.items[i] = event;
         self.len = n + 1;
         self
+    }
+
+    // How many levels an event would rise if it were pushed: one for each that it goes past. None in a full heap.
+    pub fn rise(self, event: Event) -> usize
+        ensures { λ r. ⌜ r ≡ risenBy self event ⌝ }
+    {
+        let n = self.len;
+        if 256 <= n {
+            return 0;
+        }
+        let mut rise: usize = 0;
+        let mut place = n;
+        while 0 < place {
+            let p = (place - 1) / 2;
+            let above = self.items[p];
+            if !event.precedes(above) {
+                break;
+            }
+            place = p;
+            rise = rise + 1;
+        }
+        rise
     }
 
     // The first leaves: the child that precedes fills its place, and so on down to a place without one; from there the last goes up, past every one that it precedes. An empty heap stays as it is.

@@ -8,8 +8,8 @@ use lib.ListN.{length}
 use Rattle.event.specs.declared.MixOrder.{MixOrder}
 use Rattle.refusals.specs.Refusals.{tickRefusal, processRefusal, rateRefusal}
 use Rattle.sequencer.specs.declared.Sequencer.{Sequencer}
-use Rattle.sequencer.specs.declared.StepKind.{StepKind}
-use Rattle.sequencer.specs.Rendering.{renderedTick, renderedTickOut, renderedBlock, renderedPlaces, renderedBlockOut, renderedStep, renderedStepOut}
+use Rattle.sequencer.specs.declared.Outcome as Engine
+use Rattle.sequencer.specs.Rendering.{renderedTick, renderedTickOut, renderedBlock, renderedPlaces, renderedBlockOut}
 use Rattle.sequencer.specs.Resets.{reRated}
 use Rattle.realseq.specs.declared.SequencerBackend.{SequencerBackend}
 use Rattle.realseq.specs.declared.Outcome.{Outcome}
@@ -19,17 +19,9 @@ use Rattle.realseq.specs.Answers.{asDesk, accepts, renders, refuses}
 abbrev pub withEngine : SequencerBackend → Sequencer → SequencerBackend
 withEngine d s = record { sequencer = s; messages = d .messages; returned = d .returned }
 
--- a tick or a block, unchecked: the messages are handled before it, and in mode None the finished are returned after it
-unfoldable pub stepped : MixOrder → (pool : List Float) → StepKind → SequencerBackend → Outcome
-unfolding drained renderedStep pastSentBy asDesk
-stepped order pool k d =
-    let b = drained d in
-    let r = renderedStep order pool k (b .sequencer) in
-    record { backend = pastSent (withEngine b (r .sequencer)); answer = asDesk (r .answer) }
-
-unfoldable pub steppedOut : MixOrder → (pool : List Float) → StepKind → SequencerBackend → (out : List Float) → List Float
-unfolding drained renderedStepOut
-steppedOut order pool k d out = renderedStepOut order pool k (drained d .sequencer) out
+-- the engine's outcome r as the desk's: in mode None the finished are returned after it
+abbrev pub steppedTo : SequencerBackend → Engine.Outcome → Outcome
+steppedTo b r = record { backend = pastSent (withEngine b (r .sequencer)); answer = asDesk (r .answer) }
 
 abbrev pub tickNo : SequencerBackend → (len : ℕ) → ℕ
 tickNo d len = tickRefusal len (d .sequencer .outputs) (d .sequencer .time) (d .sequencer .«sample_duration»)

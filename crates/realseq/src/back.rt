@@ -2,7 +2,7 @@
 ghost use mathlib.Core.Path.{_≡_};
 ghost use lib.ListN.{length};
 ghost use Rattle.realseq.specs.Answers.{asDesk};
-ghost use Rattle.realseq.specs.Backs.{stepped, steppedOut, ticks, tickOuts, blocks, blockOuts, rates};
+ghost use Rattle.realseq.specs.Backs.{steppedTo, ticks, tickOuts, blocks, blockOuts, rates};
 use crate::Answer;
 use crate::Outcome;
 use crate::SequencerBackend;
@@ -10,7 +10,6 @@ use event::MixOrder;
 use refusals::process_refusal;
 use refusals::rate_refusal;
 use refusals::tick_refusal;
-use sequencer::StepKind;
 
 // The engine's answer as the desk tells it: not what became of an edit.
 fn as_desk(answer: sequencer::Answer) -> Answer
@@ -28,25 +27,24 @@ fn as_desk(answer: sequencer::Answer) -> Answer
 }
 
 impl SequencerBackend {
-    // A tick or a block, unchecked: messages are handled before it, and in mode None the finished are returned after it.
-    fn step(self, order: MixOrder, step: StepKind, pool: &[f32], out: &mut [f32]) -> Outcome
-        ensures { λ r. ⌜ (r ≡ stepped order (now (pool .entry)) step self) × (now (out .exit) ≡ steppedOut order (now (pool .entry)) step self (now (out .entry))) ⌝ }
+    // What a tick or a block of the engine gives, once the messages are handled. In mode None the finished are returned after it.
+    fn after_step(mut self, r: sequencer::Outcome) -> Outcome
+        ensures { λ o. ⌜ o ≡ steppedTo self r ⌝ }
     {
-        let mut d = self.drain();
-        let s = d.sequencer;
-        let r = s.render(order, step, pool, out);
         let s = r.sequencer;
         let answer = r.answer;
-        d.sequencer = s;
-        d = d.send_back_past();
+        self.sequencer = s;
+        let d = self.send_back_past();
         Outcome {
             backend: d,
             answer: as_desk(answer),
         }
     }
 
+    // A tick of the desk, after the queued messages. Answers done, or the first refusal of 10 and 12; a refused call handles no message.
     pub fn tick(self, order: MixOrder, pool: &[f32], out: &mut [f32]) -> Outcome
-        ensures { λ r. ⌜ (r ≡ ticks order (now (pool .entry)) (length (now (out .entry))) self) × (now (out .exit) ≡ tickOuts order (now (pool .entry)) self (now (out .entry))) ⌝ }
+        ensures { λ r. ⌜ (r ≡ ticks order (now (pool .entry)) (length (now (out .entry))) self)
+            × (now (out .exit) ≡ tickOuts order (now (pool .entry)) self (now (out .entry))) ⌝ }
     {
         let s = self.sequencer;
         let no = tick_refusal(out.len(), s.outputs, s.time, s.sample_duration);
@@ -56,11 +54,17 @@ impl SequencerBackend {
                 answer: Answer::Refused(no),
             };
         }
-        self.step(order, StepKind::Tick, pool, out)
+        let d = self.drain();
+        let s = d.sequencer;
+        let r = s.render_tick(order, pool, out);
+        d.after_step(r)
     }
 
+    // A block of `size` samples, after the queued messages. Answers how its places came, or the first refusal of 10, 11 and 12;
+    // a refused call handles no message.
     pub fn process(self, order: MixOrder, size: usize, pool: &[f32], out: &mut [f32]) -> Outcome
-        ensures { λ r. ⌜ (r ≡ blocks order (now (pool .entry)) size (length (now (out .entry))) self) × (now (out .exit) ≡ blockOuts order (now (pool .entry)) size self (now (out .entry))) ⌝ }
+        ensures { λ r. ⌜ (r ≡ blocks order (now (pool .entry)) size (length (now (out .entry))) self)
+            × (now (out .exit) ≡ blockOuts order (now (pool .entry)) size self (now (out .entry))) ⌝ }
     {
         let s = self.sequencer;
         let no = process_refusal(size, out.len(), s.outputs, s.time, s.sample_duration);
@@ -70,9 +74,13 @@ impl SequencerBackend {
                 answer: Answer::Refused(no),
             };
         }
-        self.step(order, StepKind::Block(size), pool, out)
+        let d = self.drain();
+        let s = d.sequencer;
+        let r = s.render_block(order, size, pool, out);
+        d.after_step(r)
     }
 
+    // A rate, after the queued messages. Answers done, or refusal 2; a refused call handles no message.
     pub fn set_sample_rate(self, rate: f64) -> Outcome
         ensures { λ r. ⌜ r ≡ rates self rate ⌝ }
     {

@@ -1,5 +1,5 @@
 -- Ticks and blocks, on every engine.
-use mathlib.Core.Bool.{true, false, cond}
+use mathlib.Core.Bool.{cond}
 use mathlib.Core.List.{List}
 use Prim.Native.Nat.{ℕ, zero, suc, _/_, min}
 use lib.Dec.{eqb}
@@ -19,8 +19,6 @@ use Rattle.ledger.specs.Places.{eventPlacings}
 use Rattle.mixing.specs.Blocks.{clearedPlaces}
 use Rattle.sequencer.specs.declared.Sequencer.{Sequencer}
 use Rattle.sequencer.specs.declared.Outcome.{Outcome}
-use Rattle.sequencer.specs.declared.StepKind.{StepKind}
-use Rattle.sequencer.specs.declared.StepKind.the-variants.{Tick, Block}
 use Rattle.sequencer.specs.Parts.{withSounding}
 use Rattle.sequencer.specs.Moves.{advanced}
 use Rattle.refusals.specs.Refusals.{tickRefusal, processRefusal}
@@ -124,20 +122,3 @@ blocks order pool n len s =
 unfoldable pub blockOuts : MixOrder → (pool : List Float) → (n : ℕ) → Sequencer → (out : List Float) → List Float
 unfolding processRefusal renderedBlockOut
 blockOuts order pool n s out = cond (eqb (processRefusal n (length out) (s .outputs) (s .time) (s .«sample_duration»)) 0) (renderedBlockOut order pool n s out) out
-
--- ---- either
-
--- the clock at the end of a step that begins at t
-unfoldable pub stepEnd : StepKind → (t d : Float) → Float
-stepEnd Tick t d = t +ᵈ d
-stepEnd (Block n) t d = t +ᵈ d ×ᵈ whole n
-
-unfoldable pub renderedStep : MixOrder → (pool : List Float) → StepKind → Sequencer → Outcome
-unfolding renderedTick renderedBlock renderedPlaces
-renderedStep order pool Tick s = accepts (renderedTick order pool s)
-renderedStep order pool (Block n) s = renders (renderedBlock order pool n s) (renderedPlaces order n s)
-
-unfoldable pub renderedStepOut : MixOrder → (pool : List Float) → StepKind → Sequencer → (out : List Float) → List Float
-unfolding renderedTickOut renderedBlockOut
-renderedStepOut order pool Tick s out = renderedTickOut order pool s out
-renderedStepOut order pool (Block n) s out = renderedBlockOut order pool n s out

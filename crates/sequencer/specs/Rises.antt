@@ -16,10 +16,7 @@ use Rattle.ledger.specs.Steps.{pushedTime}
 use Rattle.refusals.specs.Refusals.{pushRefusal}
 use Rattle.sequencer.specs.declared.Sequencer.{Sequencer}
 use Rattle.sequencer.specs.declared.Outcome.{Outcome}
-use Rattle.sequencer.specs.declared.Answer.{Answer}
 use Rattle.sequencer.specs.declared.Pushed.{Pushed}
-use Rattle.sequencer.specs.Parts.{withNext}
-use Rattle.sequencer.specs.Moves.{pushedEvent}
 use Rattle.sequencer.specs.Pushes.{pushes}
 
 -- from the heap's first free place; a full heap stays as it is
@@ -31,10 +28,6 @@ riseReady s e = cond (ltb (s .«ready_len») 256) (levels earlier blank (s .«re
 unfoldable pub riseOf : Sequencer → Event → ℕ
 unfolding riseReady lt
 riseOf s e = cond (lt (e .«start_time») (s .«active_threshold»)) 0 (riseReady s e)
-
--- the event enters, `next` is the next number, and the call answers a
-abbrev pub entered : Sequencer → Event → Answer → (next : ℕ) → Pushed
-entered s e a next = record { sequencer = withNext (pushedEvent s e) next; answer = a; rise = riseOf s e }
 
 -- of a push as `pushesTo` has it; a refused one has no rise
 unfoldable pub riseTo : Sequencer → (start end lasts from until : Float) → Fade → (fade-in fade-out : Float) → Source → (gain : Float) → ℕ

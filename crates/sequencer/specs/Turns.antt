@@ -18,13 +18,10 @@ use Rattle.event.specs.Events.{editedBy, rewound}
 use Rattle.event.specs.Blank.{blank}
 use Rattle.floats.specs.Arithmetic.{_+ᵈ_, _-ᵈ_, _×ᵈ_, halfᶠ}
 use Rattle.ready.specs.Waiting.{popped}
-use Rattle.lists.specs.Search.{seek}
 use Rattle.lists.specs.Index.{noId}
-use Rattle.lists.specs.declared.EditMap.{EditMap}
-use Rattle.lists.specs.declared.Found.the-variants.{Nothing}
 use Rattle.lists.specs.declared.FoundEdit.{FoundEdit}
 use Rattle.lists.specs.declared.FoundEdit.the-variants.{Stored, Missing}
-use Rattle.lists.specs.Edits.{noEdit, isEdit, placed, foundAt, foundEdit, removed}
+use Rattle.lists.specs.Edits.{foundEdit, removed}
 use Rattle.sequencer.specs.declared.Sequencer.{Sequencer}
 use Rattle.sequencer.specs.Parts.{withReady, withActive, withPast, withEdits, withTimes, withLetGo}
 use Rattle.lists.specs.Past.{goneBy, keptBy}
@@ -101,12 +98,6 @@ pub record Taking (s : Sequencer) (f : Event) (t : Sequencer) (e : Event) : Type
   pub number : e .id ≡ f .id
   pub gives : pushedActive (poppedReady t) e ≡ activated s f
 
-no-edit : (a : EditMap) (k : EventId) → a .len ≤ 0 → foundEdit a k ≡ Missing
-unfolding foundEdit placed seek
-no-edit a k h =
-    let z : a .len ≡ 0 = omega arith in
-    ap (λ (n : ℕ). foundAt a (cond (leb n 256) (seek noEdit (isEdit k) n (a .items) 0) Nothing)) z
-
 module _ {s : Sequencer} {f : Event} {t : Sequencer} {e : Event} where
   pub taking-missing : foundEdit (s .«edit_map») (f .id) ≡ Missing → t ≡ s → e ≡ f → Taking s f t e
   unfolding activated activatedBy
@@ -116,9 +107,6 @@ module _ {s : Sequencer} {f : Event} {t : Sequencer} {e : Event} where
     gives = ap₂ (λ (x : Sequencer) (y : Event). pushedActive (poppedReady x) y) p q ∙ sym (ap (activatedBy s f) h);
   }
 
-  pub taking-none : s .«edit_map» .len ≤ 0 → t ≡ s → e ≡ f → Taking s f t e
-  taking-none h = taking-missing (no-edit (s .«edit_map») (f .id) h)
-
   pub taking-stored : {d : Edit} → foundEdit (s .«edit_map») (f .id) ≡ Stored d → t ≡ withEdits s (removed (s .«edit_map») (f .id)) → e ≡ editedBy d f → Taking s f t e
   unfolding activated activatedBy
   taking-stored h p q = record {
@@ -126,9 +114,6 @@ module _ {s : Sequencer} {f : Event} {t : Sequencer} {e : Event} where
     number = ap (λ (x : Event). x .id) q;
     gives = ap₂ (λ (x : Sequencer) (y : Event). pushedActive (poppedReady x) y) p q ∙ sym (ap (activatedBy s f) h);
   }
-
-  pub taking-len : Taking s f t e → t .«ready_len» ≡ s .«ready_len»
-  taking-len w = ap (λ (x : Sequencer). x .«ready_len») (w .same)
 
 -- the engine x that the event has left in its heap, and the sounding list with it
 module _ (s r : Sequencer) {t x : Sequencer} {e : Event} (p : 0 < s .«ready_len») (q : s .«ready_len» ≤ 256) (h : lt (getD (s .ready) 0 blank .«start_time») (s .«active_threshold») ≡ true)
@@ -166,7 +151,7 @@ swap-removed-len : (s : Sequencer) (i : ℕ) → i < s .«active_len» → s .«
 unfolding swapRemoved
 swap-removed-len s i p q = rw (lt-ltb i (s .«active_len») p, le-leb (s .«active_len») 256 q)
 
-finished-len : (s : Sequencer) (i : ℕ) (e : Event) → i < s .«active_len» → s .«active_len» ≤ 256 → pushedPast (swapRemoved s i) e .«active_len» ≡ s .«active_len» - 1
+pub finished-len : (s : Sequencer) (i : ℕ) (e : Event) → i < s .«active_len» → s .«active_len» ≤ 256 → pushedPast (swapRemoved s i) e .«active_len» ≡ s .«active_len» - 1
 finished-len s i e p q = pushed-past-len (swapRemoved s i) e ∙ swap-removed-len s i p q
 
 -- the last fills place i of the sounding list and of its index
@@ -207,7 +192,7 @@ module _ (limit : Float) (s : Sequencer) (i : ℕ) (r : Sequencer) where
       go zero e g = absurd (omega arith)
       go (suc f) e g = rw add-one (record { fuel = f; enough = omega arith; gives = rw (lt-ltb i (s .«active_len») p, le-leb (s .«active_len») 256 q, h) at g })
 
-  finishing-off : i < s .«active_len» → s .«active_len» ≤ 256 → le (getD (s .active) i blank .«end_time») limit ≡ true → Finishing limit s i r
+  pub finishing-off : i < s .«active_len» → s .«active_len» ≤ 256 → le (getD (s .active) i blank .«end_time») limit ≡ true → Finishing limit s i r
       → Finishing limit (pushedPast (swapRemoved s i) (getD (s .active) i blank)) i r
   unfolding finishes
   finishing-off p q h w = go (w .fuel) (w .enough) (w .gives)

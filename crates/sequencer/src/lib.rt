@@ -1,7 +1,11 @@
-// The sequencer: `Sequencer` of src/sequencer.rs of fundsp, state in, state out.
-// The interface is creation, pushes, edits, `tick`, `process`, `set_sample_rate`, `reset`, and the readers `time`, `counts` and `place`: crate claim speaks of every list of these calls.
-// A call that can be refused has three functions: one tells the refusal from a few numbers (crate refusals), one carries the call out unchecked, and one joins both. The unchecked ones (`push_event`,
-// `push_relative_event`, `change`, `change_rate`, `render`, `release_past`) are public for the desk, crate realseq, alone.
+// The plain form of the sequencer, to be read beside the Rust: `Sequencer` of src/sequencer.rs of fundsp in small functions with the Rust's names,
+// state in, state out, an event by value from list to list; clear before fast. The fast form is crates memory, list_moves and live, proved equal to
+// the definitions in specs/ that these functions meet.
+// The interface is creation, pushes, edits, `tick`, `process`, `set_sample_rate`, `reset`, and the readers `time`, `counts` and `place`: crate claim
+// speaks of every list of these calls.
+// A call that can be refused has three functions: one tells the refusal from a few numbers (crate refusals), one carries the call out unchecked, and
+// one joins both. The unchecked ones (`push_event`, `push_relative_event`, `change`, `change_rate`, `render_tick`, `render_block`, `release_past`) are
+// public for the desk, crate realseq, alone.
 // A count above 256 is corrupt: no call reads or writes past an array, and what it does then is what its definition says.
 mod creation;
 mod edits;
@@ -56,15 +60,10 @@ pub struct Outcome {
     pub answer: Answer,
 }
 
-// What a push gives: its outcome, and how many levels its event rose in the heap (document 02, Paper 13); 0 where it was refused or went straight to the sounding list.
+// What a push gives: its outcome, and how many levels its event rose in the heap (document 02, Paper 13); 0 where it was refused or went straight
+// to the sounding list.
 pub struct Pushed {
     pub sequencer: Sequencer,
     pub answer: Answer,
     pub rise: usize,
-}
-
-// A step of the clock: a tick, or a block of so many samples.
-pub enum StepKind {
-    Tick,
-    Block(usize),
 }

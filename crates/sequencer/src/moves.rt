@@ -1,73 +1,103 @@
 // Events move between the heap, the sounding list and the finished list. A list that is full, or whose count is corrupt, stays as it is.
 ghost use mathlib.Core.Path.{_≡_};
-ghost use Prim.Native.Nat.{min};
-ghost use Rattle.sequencer.specs.Moves.{pushedEvent, pushedRelative, releasedPast, allToReady};
-ghost use Rattle.sequencer.specs.Rises.{entered};
-use crate::Answer;
-use crate::Pushed;
+ghost use Prim.Native.Nat.{_<_, _≤_};
+ghost use lib.ListN.{getD};
+ghost use Rattle.event.specs.Blank.{blank};
+ghost use Rattle.floats.specs.Arithmetic.{_-ᵈ_, _×ᵈ_, halfᶠ};
+ghost use Rattle.sequencer.specs.Parts.{withTimes};
+ghost use Rattle.sequencer.specs.Moves.{pushedReady, poppedReady, pushedActive, swapRemoved, pushedPast, activated};
+ghost use Rattle.sequencer.specs.Moves.{pushedEvent, pushedRelative, readyToActive, activeToPast, releasedPast, advanced, allToReady};
 use crate::Sequencer;
 use event::Event;
+use lists::FoundEdit;
+use ready::Ready;
 use runs::least;
 
 impl Sequencer {
-    // ---- a push, unchecked
+    // ---- one event
 
-    // Straight to the sounding list if it starts before the threshold, without looking for an edit; otherwise it waits: as in `Ready::push` it goes up the heap from the first free place, past every one that it precedes.
-    // `next` is the next number, and `answer` what the call answers. Both ways stand in one function, so that the engine is copied once in and once out.
-    pub(crate) fn enter(mut self, event: Event, answer: Answer, next: u64) -> Pushed
-        ensures { λ r. ⌜ r ≡ entered self event answer next ⌝ }
+    // The event waits.
+    fn push_ready(mut self, event: Event) -> Sequencer
+        ensures { λ r. ⌜ r ≡ pushedReady self event ⌝ }
     {
-        self.next = next;
-        if event.start_time < self.active_threshold {
-            let n = self.active_len;
-            let id = event.id;
-            if n < 256 {
-                self.active[n] = event;
-                self.active_map[n] = id;
-                self.active_len = n + 1;
-            }
-            return Pushed {
-                sequencer: self,
-                answer: answer,
-                rise: 0,
-            };
-        }
-        let n = self.ready_len;
-        if 256 <= n {
-            return Pushed {
-                sequencer: self,
-                answer: answer,
-                rise: 0,
-            };
-        }
-        let mut rise: usize = 0;
-        let mut i = n;
-        while 0 < i {
-            let p = (i - 1) / 2;
-            let parent = self.ready[p];
-            if !event.precedes(parent) {
-                break;
-            }
-            self.ready[i] = parent;
-            i = p;
-            rise = rise + 1;
-        }
-        self.ready[i] = event;
-        self.ready_len = n + 1;
-        Pushed {
-            sequencer: self,
-            answer: answer,
-            rise: rise,
-        }
+        let items = self.ready;
+        let heap = Ready {
+            items: items,
+            len: self.ready_len,
+        };
+        let heap = heap.push(event);
+        let items = heap.items;
+        self.ready = items;
+        self.ready_len = heap.len;
+        self
     }
 
-    // The same, and nobody asks for the rise.
+    // The first of those that wait leaves the heap.
+    fn pop_ready(mut self) -> Sequencer
+        ensures { λ r. ⌜ r ≡ poppedReady self ⌝ }
+    {
+        let items = self.ready;
+        let heap = Ready {
+            items: items,
+            len: self.ready_len,
+        };
+        let heap = heap.pop();
+        let items = heap.items;
+        self.ready = items;
+        self.ready_len = heap.len;
+        self
+    }
+
+    // The event sounds.
+    fn push_active(mut self, event: Event) -> Sequencer
+        ensures { λ r. ⌜ r ≡ pushedActive self event ⌝ }
+    {
+        let n = self.active_len;
+        let id = event.id;
+        if n < 256 {
+            self.active[n] = event;
+            self.active_map[n] = id;
+            self.active_len = n + 1;
+        }
+        self
+    }
+
+    // The event is finished.
+    fn push_past(mut self, event: Event) -> Sequencer
+        ensures { λ r. ⌜ r ≡ pushedPast self event ⌝ }
+    {
+        let n = self.past_len;
+        if n < 256 {
+            self.past[n] = event;
+            self.past_len = n + 1;
+        }
+        self
+    }
+
+    // The event at place i leaves the sounding list and its index: the last fills its place.
+    fn swap_remove(mut self, i: usize) -> Sequencer
+        requires { ⌜ (i < self .«active_len») × (self .«active_len» ≤ 256) ⌝ }
+        ensures { λ r. ⌜ r ≡ swapRemoved self i ⌝ }
+    {
+        let n = self.active_len - 1;
+        let last = self.active[n];
+        self.active[i] = last;
+        let id = self.active_map[n];
+        self.active_map[i] = id;
+        self.active_len = n;
+        self
+    }
+
+    // ---- a push, unchecked
+
+    // Straight to the sounding list if it starts before the threshold, without looking for an edit; otherwise it waits.
     pub fn push_event(self, event: Event) -> Sequencer
         ensures { λ r. ⌜ r ≡ pushedEvent self event ⌝ }
     {
-        let next = self.next;
-        let pushed = self.enter(event, Answer::Done, next);
-        pushed.sequencer
+        if event.start_time < self.active_threshold {
+            return self.push_active(event);
+        }
+        self.push_ready(event)
     }
 
     // The clock is added to start and end.
@@ -79,7 +109,77 @@ impl Sequencer {
         self.push_event(event)
     }
 
-    // ---- the finished
+    // ---- the beginning of a tick or a block
+
+    // The first of those that wait becomes active, with its edit.
+    fn start_first(mut self) -> Sequencer
+        ensures { λ r. ⌜ r ≡ activated self (getD (self .ready) 0 blank) ⌝ }
+    {
+        let first = self.ready[0];
+        let id = first.id;
+        let edits = self.edit_map;
+        let found = edits.find(id);
+        match found {
+            FoundEdit::Stored(edit) => {
+                let event = first.edited(edit);
+                let edits = edits.remove(id);
+                self.edit_map = edits;
+                let s = self.pop_ready();
+                s.push_active(event)
+            }
+            FoundEdit::Missing => {
+                let s = self.pop_ready();
+                s.push_active(first)
+            }
+        }
+    }
+
+    // Those that start before the threshold of a step that ends at `next_end_time` become active, first first.
+    fn ready_to_active(mut self, next_end_time: f64) -> Sequencer
+        ensures { λ r. ⌜ r ≡ readyToActive (withTimes self (self .time) («next_end_time» -ᵈ self .«sample_duration» ×ᵈ halfᶠ)) ⌝ }
+    {
+        self.active_threshold = next_end_time - self.sample_duration * 0.5;
+        while 0 < self.ready_len {
+            if 256 < self.ready_len {
+                break;
+            }
+            let first = self.ready[0];
+            if !(first.start_time < self.active_threshold) {
+                break;
+            }
+            self = self.start_first();
+        }
+        self
+    }
+
+    // The event at place i of the sounding list is past.
+    fn finish(self, i: usize) -> Sequencer
+        requires { ⌜ (i < self .«active_len») × (self .«active_len» ≤ 256) ⌝ }
+        ensures { λ r. ⌜ r ≡ pushedPast (swapRemoved self i) (getD (self .active) i blank) ⌝ }
+    {
+        let event = self.active[i];
+        let s = self.swap_remove(i);
+        s.push_past(event)
+    }
+
+    // Those that end by `limit` are past. The one that fills a place is looked at next.
+    fn active_to_past(mut self, limit: f64) -> Sequencer
+        ensures { λ r. ⌜ r ≡ activeToPast self limit ⌝ }
+    {
+        let mut i = 0;
+        while i < self.active_len {
+            if 256 < self.active_len {
+                break;
+            }
+            let event = self.active[i];
+            if event.end_time <= limit {
+                self = self.finish(i);
+            } else {
+                i = i + 1;
+            }
+        }
+        self
+    }
 
     // In mode None the finished are let go.
     pub fn release_past(mut self) -> Sequencer
@@ -91,9 +191,21 @@ impl Sequencer {
         self
     }
 
+    // The lists, the threshold and the clock of a tick or a block that ends at `end`.
+    pub(crate) fn advance(self, end: f64) -> Sequencer
+        ensures { λ r. ⌜ r ≡ advanced self end ⌝ }
+    {
+        let limit = self.time + 0.5 * self.sample_duration;
+        let s = self.release_past();
+        let s = s.ready_to_active(end);
+        let mut s = s.active_to_past(limit);
+        s.time = end;
+        s
+    }
+
     // ---- everything waits again
 
-    // The finished, then the sounding go into the heap, each as in `enter`.
+    // The finished, then the sounding go into the heap.
     pub(crate) fn all_to_ready(mut self) -> Sequencer
         ensures { λ r. ⌜ r ≡ allToReady self ⌝ }
     {
@@ -107,22 +219,8 @@ impl Sequencer {
             } else {
                 event = self.active[i - past];
             }
+            self = self.push_ready(event);
             i = i + 1;
-            let m = self.ready_len;
-            if m < 256 {
-                let mut j = m;
-                while 0 < j {
-                    let p = (j - 1) / 2;
-                    let parent = self.ready[p];
-                    if !event.precedes(parent) {
-                        break;
-                    }
-                    self.ready[j] = parent;
-                    j = p;
-                }
-                self.ready[j] = event;
-                self.ready_len = m + 1;
-            }
         }
         self.past_len = 0;
         self.active_len = 0;

@@ -22,6 +22,7 @@ impl Sequencer {
         self.time
     }
 
+    // How many events each list holds, and how many were let go.
     pub fn counts(self) -> Counts
         ensures { λ r. ⌜ r ≡ countsOf self ⌝ }
     {

@@ -78,6 +78,7 @@ impl Sequencer {
         s
     }
 
+    // A new sample rate. Answers done, or refusal 2, which leaves the engine as it was.
     pub fn set_sample_rate(self, rate: f64) -> Outcome
         ensures { λ r. ⌜ r ≡ rates self rate ⌝ }
     {

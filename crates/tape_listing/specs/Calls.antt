@@ -1,5 +1,5 @@
 -- The calls of `run` (crate player) by which `trail` lists a tape that it reads in pieces: the loop of `list` in crates/trail/src/main.rt.
--- What C's reads give stands in the place of the reads. Assumes nothing.
+-- What C's reads give stands in the place of the reads, and the engine in that of the four arrays that hold it (`engineOf`, crate memory). Assumes nothing.
 use Prim.Native.Nat.{ℕ, zero, suc}
 use mathlib.Core.Bool.{Bool, true, false}
 use mathlib.Core.List.{List, [], _∷_, _++_}

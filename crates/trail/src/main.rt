@@ -1,5 +1,9 @@
 // Reads a tape of any length from standard input and lists it, in pieces of 64 KB each way. `trail --pool FILE` has the file's samples as the pool that clips read.
 // A failed read counts as the tape's end; a failed write ends the listing. Both are said on standard error.
+ghost use mathlib.Core.Path.{_≡_};
+ghost use Prim.Native.Nat.{_≤_};
+ghost use lib.ListN.{length};
+
 mod say;
 
 use record_output::Form;
@@ -18,19 +22,55 @@ fn write_out(text: &[u8], used: usize) -> bool {
     false
 }
 
-// Lists the tape that standard input has.
+// How many bytes of the tape are at hand, and whether they are all that is left of it.
+struct Hand {
+    have: usize,
+    whole: bool,
+}
+
+// Drops the first `at` of the bytes at hand, and reads more behind the others.
+fn read_more(buf: &mut [u8], at: usize, have: usize) -> Hand
+    ensures { λ _. ⌜ length (now (buf .exit)) ≡ length (now (buf .entry)) ⌝ }
+    ensures { λ r. ⌜ r .have ≤ length (now (buf .entry)) ⌝ }
+{
+    let kept = tape_input::shift(buf, at, have);
+    let came = tape_input::read_on(0, buf, kept);
+    if came.failed {
+        io::write_all(2, b"trail: standard input cannot be read\n");
+    }
+    Hand {
+        have: kept + came.count,
+        whole: came.count == 0,
+    }
+}
+
+// Lists the tape that standard input has. The engine stays in four arrays, in which each call of `run` goes on.
 fn list(pool: &[f32]) {
     let mut buf = io::large_buffer();
     let mut text = io::large_buffer();
-    let mut s = apply::start();
+    let mut times = player::blank_times();
+    let mut levels = player::blank_levels();
+    let mut marks = player::blank_marks();
+    let mut numbers = player::blank_numbers();
+    player::start(&mut times, &mut levels, &mut marks, &mut numbers);
     let mut cursor = Cursor { at: 0, first: true };
     let mut have: usize = 0;
     let mut whole = false;
     let mut turns = u64::MAX;
     while turns > 0 {
         turns = turns - 1;
-        let p = player::run(s, cursor, &buf[..have], whole, pool, Form::Lines, &mut text);
-        s = p.sequencer;
+        let p = player::run(
+            &mut times,
+            &mut levels,
+            &mut marks,
+            &mut numbers,
+            cursor,
+            &buf[..have],
+            whole,
+            pool,
+            Form::Lines,
+            &mut text,
+        );
         cursor = p.cursor;
         let pause = p.pause;
         match pause {
@@ -43,15 +83,11 @@ fn list(pool: &[f32]) {
                 if !write_out(&text, p.used) {
                     return;
                 }
-                have = tape_input::shift(&mut buf, cursor.at, have);
+                let hand = read_more(&mut buf, cursor.at, have);
                 let first = cursor.first;
                 cursor = Cursor { at: 0, first };
-                let came = tape_input::read_on(0, &mut buf, have);
-                if came.failed {
-                    io::write_all(2, b"trail: standard input cannot be read\n");
-                }
-                whole = came.count == 0;
-                have = have + came.count;
+                have = hand.have;
+                whole = hand.whole;
             }
             Pause::Refused(number) => {
                 write_out(&text, p.used);

@@ -5,10 +5,13 @@
 ghost use Prim.Native.Nat.{_≤_};
 ghost use lib.ListN.{length};
 use event::EventId;
+use memory::Levels;
+use memory::Marks;
+use memory::Numbers;
+use memory::Times;
 use overlap::FirstWaiting;
 use overlap::Found;
 use runs::least;
-use sequencer::Sequencer;
 use tape::reader::Cursor;
 use tape::reader::Read;
 
@@ -89,31 +92,56 @@ fn slice_length() -> usize {
 
 // ---- the tape
 
-// The engine after the tape, as far as no record stops it.
-fn play(bytes: &[u8], pool: &[f32]) -> Sequencer {
+// Arrays that hold an engine without events, before the tape makes its own.
+fn blank_times() -> Times {
+    [0.0; 3588]
+}
+
+fn blank_levels() -> Levels {
+    [0.0; 3072]
+}
+
+fn blank_marks() -> Marks {
+    [0; 3072]
+}
+
+fn blank_numbers() -> Numbers {
+    [0; 1288]
+}
+
+// Plays the tape on the engine that the arrays hold, as far as no record stops it.
+fn play(
+    times: &mut Times,
+    levels: &mut Levels,
+    marks: &mut Marks,
+    numbers: &mut Numbers,
+    bytes: &[u8],
+    pool: &[f32],
+) {
     let mut samples = apply::silence();
-    let mut s = apply::start();
     let mut c = Cursor { at: 0, first: true };
     let mut turns = bytes.len();
     while turns > 0 {
         turns = turns - 1;
         let r = c.read(bytes);
-        let Read::Record {
-            kind: _,
-            call,
-            next,
-        } = r
-        else {
-            return s;
+        let Read::Record { kind, call, next } = r else {
+            return;
         };
-        let a = apply::apply(s, call, pool, &mut samples);
-        s = a.sequencer;
-        if a.refusal == 1 {
-            return s;
+        let left = live_apply::carry_out(
+            times,
+            levels,
+            marks,
+            numbers,
+            kind,
+            call,
+            pool,
+            &mut samples,
+        );
+        if left.refusal == 1 {
+            return;
         }
         c = next;
     }
-    s
 }
 
 // ---- what is printed
@@ -134,8 +162,16 @@ fn list_numbers(numbers: &[u64], n: usize) {
     }
 }
 
-fn list_clips(s: Sequencer, from: f64, to: f64, out: &mut [u64]) {
-    let found = overlap::clips(s, from, to, out);
+fn list_clips(
+    times: &Times,
+    levels: &Levels,
+    marks: &Marks,
+    numbers: &Numbers,
+    from: f64,
+    to: f64,
+    out: &mut [u64],
+) {
+    let found = overlap::clips(times, levels, marks, numbers, from, to, out);
     match found {
         Found::Clips(n) => {
             io::write_all(1, b"clips ");
@@ -179,10 +215,19 @@ fn count_left(row: &[u64], n: usize) -> u64 {
 }
 
 // Lists the clips by a slice of `length` numbers, the front of the row.
-fn list_by_slice(s: Sequencer, from: f64, to: f64, row: &mut [u64], length: usize) {
+fn list_by_slice(
+    times: &Times,
+    levels: &Levels,
+    marks: &Marks,
+    numbers: &Numbers,
+    from: f64,
+    to: f64,
+    row: &mut [u64],
+    length: usize,
+) {
     mark_all(row);
     if length <= row.len() {
-        list_clips(s, from, to, &mut row[..length]);
+        list_clips(times, levels, marks, numbers, from, to, &mut row[..length]);
     }
 }
 
@@ -193,8 +238,8 @@ fn list_left(row: &[u64], length: usize) {
     }
 }
 
-fn list_first(s: Sequencer, time: f64) {
-    let first = overlap::first_from(s, time);
+fn list_first(times: &Times, levels: &Levels, marks: &Marks, numbers: &Numbers, time: f64) {
+    let first = overlap::first_from(times, levels, marks, numbers, time);
     match first {
         FirstWaiting::Number(id) => {
             io::write_all(1, b"first ");
@@ -210,18 +255,43 @@ fn list_first(s: Sequencer, time: f64) {
     }
 }
 
+// Plays the tape and lists what is then held.
+fn list(bytes: &[u8], from: f64, to: f64) {
+    let pool = tape::pool::trail_pool();
+    let mut times = blank_times();
+    let mut levels = blank_levels();
+    let mut marks = blank_marks();
+    let mut numbers = blank_numbers();
+    play(
+        &mut times,
+        &mut levels,
+        &mut marks,
+        &mut numbers,
+        bytes,
+        &pool,
+    );
+    let length = slice_length();
+    let mut row = [0u64; 512];
+    list_by_slice(
+        &times,
+        &levels,
+        &marks,
+        &numbers,
+        from,
+        to,
+        &mut row,
+        length,
+    );
+    list_first(&times, &levels, &marks, &numbers, from);
+    list_left(&row, length);
+}
+
 fn main() {
     let from = argument(1);
     let to = argument(2);
     let mut buf = io::large_buffer();
     let n = io::read_full(0, &mut buf);
     if n <= 65536 {
-        let pool = tape::pool::trail_pool();
-        let s = play(&buf[..n], &pool);
-        let length = slice_length();
-        let mut row = [0u64; 512];
-        list_by_slice(s, from, to, &mut row, length);
-        list_first(s, from);
-        list_left(&row, length);
+        list(&buf[..n], from, to);
     }
 }

@@ -1,32 +1,38 @@
--- `batch::push_records` meets its contract. The outer loop keeps what the definition gives from the next record on; in the inner one the event rises.
+-- `batch::push_records` meets its contract. The loop keeps what the definition gives from the next record on.
 use borrow.Author.Needs.{needs}
-use borrow.Author.Tests.{not-true, not-false}
+use borrow.Author.Tests.{eq-eqb, ne-eqb}
 use native.Mathlib.Omega.{arith}
 use Prim.Native.Nat.{ℕ, _+_, _-_, _≤_, _<_}
-use mathlib.Core.Logic.{⊎-elim}
-use mathlib.Core.Path.{_≡_, sym, _∙_}
+use mathlib.Core.Path.{_≡_, sym, ap, _∙_}
+use mathlib.Core.List.{List}
+use denote.Ref.{now}
 use lib.ListN.{drop}
-use Rattle.sequencer.specs.Rounds.{RisingIn, rising-in, rising-in-on, risen-in-root, risen-in-stop}
-use Rattle.batch.proofs.Running.{Running, Pushes, found, all-refused, running, running-on, run-ended, run-done, place-inside, slice-length}
-use Rattle.batch.proofs.Running.{entered-active, entered-ready}
+use Rattle.memory.specs.Memory.{Cells, cellsOf, engineOf}
+use Rattle.tape.specs.Tape.{kindOf, sizeOf}
+use Rattle.batch.proofs.Running.{Running, found, all-refused, running, running-on, run-ended, run-done, place-inside, slice-length, next-in, part-all}
 use Rattle.batch.proofs.push_records.Statement.{statement}
 use Rattle.batch.proofs.push_records.Tie as tie
 
-abbrev Inv-loop2 : tie.InvT-loop2
-Inv-loop2 records count numbers s₀ pushed at n event size m i₀ s i = (m < 256) × RisingIn s₀ event i s
-
-abbrev μ-loop2 : tie.MeasureT-loop2
-μ-loop2 records count numbers s₀ pushed at n event size m i₀ s i = i
-
 abbrev Inv-loop : tie.InvT-loop
-Inv-loop records count numbers₀ s₀ pushed₀ at₀ numbers s pushed at = Running count records s₀ numbers₀ pushed at s numbers
+Inv-loop times₀ levels₀ marks₀ numbers₀ records count given₀ pushed₀ at₀ times levels marks numbers given pushed at =
+    Running count records (engineOf (cellsOf times₀ levels₀ marks₀ numbers₀)) given₀ pushed at (engineOf (cellsOf times levels marks numbers)) given
 
 abbrev μ-loop : tie.MeasureT-loop
-μ-loop records count numbers₀ s₀ pushed₀ at₀ numbers s pushed at = count - pushed
+μ-loop times₀ levels₀ marks₀ numbers₀ records count given₀ pushed₀ at₀ times levels marks numbers given pushed at = count - pushed
 
 -- a need, or a place in the function, with these
-abbrev With : (tie.InvT-loop2 → tie.MeasureT-loop2 → tie.InvT-loop → tie.MeasureT-loop → Type 0) → Type 0
-With f = f Inv-loop2 μ-loop2 Inv-loop μ-loop
+abbrev With : (tie.InvT-loop → tie.MeasureT-loop → Type 0) → Type 0
+With f = f Inv-loop μ-loop
+
+-- the beginning of the round in which a record has been tried
+abbrev turn : With tie.After-push-record → With tie.At-loop
+turn c = c .before .before .before .before .before .before .before .before
+
+abbrev start : With tie.After-push-record → With tie.Start
+start c = turn c .before .before .before .before .before
+
+abbrev cells : With tie.After-push-record → Cells
+cells c = let l = turn c .loop in cellsOf (l .times) (l .levels) (l .marks) (l .numbers)
 
 returns : With tie.Need-returns
 returns c = all-refused _ _ _ _ (sym (c .before .beyond .ensures) ∙ c .if1 .taken)
@@ -34,121 +40,38 @@ returns c = all-refused _ _ _ _ (sym (c .before .beyond .ensures) ∙ c .if1 .ta
 loop-holds : With tie.Need-loop-holds
 loop-holds c = running (sym (c .before .beyond .ensures) ∙ c .if1 .left)
 
-part-step-of-start : With tie.Need-part-step-of-start
-part-step-of-start c = c .before .before .loop .inv .inside
-
--- ---- a record stops the run
+part-push-record-start : With tie.Need-part-push-record-start
+part-push-record-start c = c .before .before .before .before .before .before .loop .inv .inside
 
 same-length : With tie.Need-same-length
-same-length c = slice-length (c .before .before .before .before .before .before .before .loop .inv)
+same-length c = slice-length (c .before .before .before .before .before .before .before .before .before .loop .inv)
 
 returns-2 : With tie.Need-returns-2
 returns-2 c =
-    let d = c .before in
-    let h = d .before .before .before .before in
-    let l = h .before .before .loop in
-    run-ended _ (h .before .loop-test .taken)
-    (found (h .before .before .before .before .before .before .before .args .records .now) (l .at) (l .s) _ _ (h .held .ensures)
-    (d .before .before .step-of .ensures) _ (d .step .given .1)) (l .inv)
+    let m = found (now (c .before .before .before .before .before .before .before .before .before .before .before .before .before .before .args .records)) (c .before .before .before .before .before .before .before .before .before .loop .at) (engineOf (cells (c .before))) _ _ (c .before .push-record .ensures .0) (c .before .push-record .ensures .1) in
+    run-ended _ _ (c .before .before .before .before .before .before .before .before .loop-test .taken) (m .0 (ne-eqb _ 0 (c .if2 .taken))) (c .before .before .before .before .before .before .before .before .before .loop .inv)
 
--- ---- its event is pushed
+slice-write-given : With tie.Need-slice-write-given
+slice-write-given c = let w = c .before .before .before .before .before .before .before .before .before .loop .inv in omega (arith, c .before .before .before .before .before .before .before .before .loop-test .taken, slice-length w, w .few, w .long)
 
-abbrev Pushing : Type 0
-Pushing = With tie.After-step2
-
-abbrev turn : Pushing → With tie.In-loop
-turn c = c .before .before .before .before .before
-
-abbrev start : Pushing → With tie.Start
-start c = turn c .before .before .before .before .before .before
-
-pushes : (c : Pushing)
-    → (let l = turn c .before .loop in Pushes (drop (l .at) (start c .args .records .now)) (l .s) (c .step2 .given .0 .0) (c .step2 .given .0 .1 .0))
-pushes c =
-    let l = turn c .before .loop in
-    found (start c .args .records .now) (l .at) (l .s) _ _ (c .before .before .before .before .held .ensures)
-    (c .before .before .step-of .ensures) _ (c .step2 .given .1)
-
-slice-write-numbers : With tie.Need-slice-write-numbers
-slice-write-numbers c =
-    let t = turn (c .before .before) in
-    let w = t .before .loop .inv in
-    omega (arith, t .loop-test .taken, slice-length w, w .few, w .long)
+part-size-at-start : With tie.Need-part-size-at-start
+part-size-at-start c = c .before .before .before .before .before .before .before .before .before .loop .inv .inside
 
 add-at : With tie.Need-add-at
 add-at c =
-    let p = c .before .before .before in
-    let l = turn p .before .loop in
-    omega (arith, place-inside (start p .args .records .now) (l .at) _ (l .inv .inside) (pushes p .inside), start p .good .1 .0 .0)
-
--- ---- to the sounding list
-
-mul-event : With tie.Need-mul-event
-mul-event c = search (needs, pushes (c .before .before .before .before .before) .room)
-
-element-set-from-event : With tie.Need-element-set-from-event
-element-set-from-event c = search (needs, pushes (c .before .before .before .before .before) .room)
-
-mul-id : With tie.Need-mul-id
-mul-id c = search (needs, pushes (c .before .before .before .before .before) .room)
-
-element-set-from-id : With tie.Need-element-set-from-id
-element-set-from-id c = search (needs, pushes (c .before .before .before .before .before) .room)
-
-add-s : With tie.Need-add-s
-add-s c = search (needs, pushes (c .before .before .before .before .before) .room)
+    let m = found (now (c .before .before .before .before .before .before .before .before .before .before .before .before .before .before .before .before .args .records)) (c .before .before .before .before .before .before .before .before .before .before .before .loop .at) (engineOf (cells (c .before .before .before))) _ _ (c .before .before .before .push-record .ensures .0) (c .before .before .before .push-record .ensures .1) in
+    let p = m .1 (eq-eqb _ 0 (c .before .before .if2 .left)) in
+    let bs = now (c .before .before .before .before .before .before .before .before .before .before .before .before .before .before .before .before .args .records) in
+    let q = c .size-at .ensures ∙ ap (λ (l : List ℕ). sizeOf (kindOf l)) (part-all bs (c .before .before .before .before .before .before .before .before .before .before .before .loop .at)) in
+    omega (arith, place-inside bs (c .before .before .before .before .before .before .before .before .before .before .before .loop .at) _ (c .before .before .before .before .before .before .before .before .before .before .before .loop .inv .inside) (p .whole), q, c .before .before .before .before .before .before .before .before .before .before .before .before .before .before .before .before .good .1 .1 .1 .1 .0 .0)
 
 loop-again : With tie.Need-loop-again
 loop-again c =
-    let p = c .before .before .before .before .before in
-    running-on _ _ _ (turn p .loop-test .taken) (pushes p)
-    (entered-active _ _ _ (omega (arith, pushes p .room)) (c .if2 .taken) (c .before .before .wrapping-add-u64 .ensures)) (turn p .before .loop .inv)
-
--- ---- it rises in the heap
-
-loop2-holds : With tie.Need-loop2-holds
-loop2-holds c = (omega (arith, pushes (c .before .before .before .before .before) .room), rising-in)
-
-sub-p : With tie.Need-sub-p
-sub-p c = search (needs, c .before .loop2 .inv .0, c .before .loop2 .inv .1 .inside)
-
-mul-parent : With tie.Need-mul-parent
-mul-parent c = search (needs, c .before .loop2 .inv .0, c .before .loop2 .inv .1 .inside)
-
-element-copy-out-parent : With tie.Need-element-copy-out-parent
-element-copy-out-parent c = search (needs, c .before .loop2 .inv .0, c .before .loop2 .inv .1 .inside)
-
-mul-parent-2 : With tie.Need-mul-parent-2
-mul-parent-2 c = let l = c .before .before .before .before .loop2 in search (needs, l .inv .0, l .inv .1 .inside)
-
-element-set-from-parent : With tie.Need-element-set-from-parent
-element-set-from-parent c = let l = c .before .before .before .before .loop2 in search (needs, l .inv .0, l .inv .1 .inside)
-
-loop2-again : With tie.Need-loop2-again
-loop2-again c =
-    let l = c .before .before .before .before .loop2 in
-    (l .inv .0, rising-in-on (c .before .before .before .loop2-test .taken) (sym (c .before .precedes .ensures) ∙ not-false _ (c .if3 .left)) (l .inv .1))
-
-mul-event-2 : With tie.Need-mul-event-2
-mul-event-2 c = search (needs, c .before .loop2 .inv .0, c .before .loop2 .inv .1 .inside)
-
-element-set-from-event-2 : With tie.Need-element-set-from-event-2
-element-set-from-event-2 c = search (needs, c .before .loop2 .inv .0, c .before .loop2 .inv .1 .inside)
-
-add-s-2 : With tie.Need-add-s-2
-add-s-2 c = search (needs, c .before .loop2 .inv .0, c .before .loop2 .inv .1 .inside)
-
-loop-again-2 : With tie.Need-loop-again-2
-loop-again-2 c =
-    let w = c .before .loop2 .inv in
-    let f = c .before .before in
-    let p = f .before .before .before .before .before in
-    running-on _ _ _ (turn p .loop-test .taken) (pushes p)
-    (⊎-elim (λ x. risen-in-root (w .0) (x .left) (w .1))
-    (λ x. risen-in-stop (w .0) (sym (x .2 .ensures) ∙ not-true _ (x .3 .taken)) (w .1)) (c .loop2-test .came)
-    ∙ entered-ready _ _ _ (f .if2 .left) (f .before .before .wrapping-add-u64 .ensures)) (turn p .before .loop .inv)
-
--- ---- every record is done
+    let m = found (now (c .before .before .before .before .before .before .before .before .before .before .before .before .before .before .before .before .args .records)) (c .before .before .before .before .before .before .before .before .before .before .before .loop .at) (engineOf (cells (c .before .before .before))) _ _ (c .before .before .before .push-record .ensures .0) (c .before .before .before .push-record .ensures .1) in
+    let p = m .1 (eq-eqb _ 0 (c .before .before .if2 .left)) in
+    let bs = now (c .before .before .before .before .before .before .before .before .before .before .before .before .before .before .before .before .args .records) in
+    let q = c .size-at .ensures ∙ ap (λ (l : List ℕ). sizeOf (kindOf l)) (part-all bs (c .before .before .before .before .before .before .before .before .before .before .before .loop .at)) in
+    running-on _ _ _ (c .before .before .before .before .before .before .before .before .before .before .loop-test .taken) p q (next-in (cells (c .before .before .before))) (c .before .before .before .before .before .before .before .before .before .before .before .loop .inv)
 
 same-length-2 : With tie.Need-same-length-2
 same-length-2 c = slice-length (c .before .loop .inv)
@@ -159,9 +82,7 @@ returns-3 c = run-done (c .loop-test .left) (c .before .loop .inv)
 pub push-records-spec : {M : Type 1} → statement M
 push-records-spec =
     tie.close
-    (tie.spec Inv-loop2 μ-loop2 Inv-loop μ-loop (λ c κs. search needs) returns loop-holds (λ c κs. search needs) (λ c. search needs)
-    part-step-of-start (λ c. search needs) (λ c κs. search needs) (λ c. search needs) same-length returns-2 (λ c. search needs) (λ c. search needs)
-    slice-write-numbers
-    (λ c κs. search needs) (λ c. search needs) add-at mul-event element-set-from-event mul-id element-set-from-id add-s (λ c. search needs)
-    loop-again loop2-holds sub-p mul-parent element-copy-out-parent (λ c κs. search needs) mul-parent-2 element-set-from-parent
-    (λ c. search needs) loop2-again mul-event-2 element-set-from-event-2 add-s-2 (λ c. search needs) loop-again-2 same-length-2 returns-3)
+    (tie.spec Inv-loop μ-loop (λ c. search needs) returns loop-holds (λ c. search needs) (λ c. search needs) part-push-record-start
+    (λ c. search needs) (λ c. search needs) same-length returns-2 (λ c. search needs) slice-write-given (λ c. search needs)
+    (λ c. search needs) part-size-at-start (λ c. search needs) (λ c. search needs) add-at (λ c. search needs) loop-again same-length-2
+    returns-3)

@@ -1,72 +1,138 @@
--- `player::run` meets its contract: the record loop keeps `Rolling`, every arm leaves what its plan means, and the loops in the arms keep the laws of the moves (crate sequencer). Assumes nothing.
--- It is ordered as the code is. Invariants has what each loop keeps, and what it counts down. Places has the points of a turn that the arms go back to, and what is known there.
--- Then each arm has a module: what is asked where a loop is entered (holds), goes on (less, again) and is left. Here they are put together.
-mod Invariants
-mod Places
-mod Leaving
-mod Pushes
-mod Starts
-mod Ends
-mod Mixing
-mod Edits
-mod Requeues
-mod Creations
+-- `player::run` meets its contract: the loop's invariant is `Rolling`, of which each way out cites one lemma.
 use borrow.Author.Needs.{needs}
+use mathlib.Core.Path.{_≡_, refl, sym, _∙_}
+use mathlib.Core.Bool.{false}
+use mathlib.Core.Logic.{⊎-elim}
+use mathlib.Core.List.{[], _∷_}
+use Prim.Native.Nat.{_-_}
+use native.Mathlib.Omega.{arith}
+use lib.ListN.{length}
+use denote.Enum.Declared.{tagOf}
+use types.Run.{OneOf}
+use Rattle.tape.specs.declared.reader.Read.{Read}
+use Rattle.tape.specs.declared.reader.Read.the-variants.{Record, Refused, End}
+use Rattle.tape.proofs.reader.Read.{the-type}
+use Rattle.tape.specs.Cursors.{isRecord, moves}
+use Rattle.record_output.specs.Endings.{ending}
+use Rattle.memory.specs.Memory.{cellsOf, engineOf}
+use Rattle.player.proofs.Rolling.{Rolling, start, answered, inside, same-rest, same-sets, same-put, ends-short, ends-unread, ends-full, ends-refused, goes-on}
 use Rattle.player.proofs.run.Statement.{statement}
 use Rattle.player.proofs.run.Tie as tie
-use Invariants.*
-use Leaving.*
-use Pushes.*
-use Starts.*
-use Ends.*
-use Mixing.*
-use Edits.*
-use Requeues.*
-use Creations.*
+
+not-record : (r : Read) → OneOf (1 ∷ 2 ∷ []) (tagOf the-type r) → isRecord r ≡ false
+not-record (Record k call next) h = absurd (⊎-elim (λ z. omega arith) (λ z. omega arith) h)
+not-record (Refused k n) h = refl
+not-record End h = refl
+
+abbrev Inv-loop : tie.InvT-loop
+Inv-loop times₀ levels₀ marks₀ numbers₀ tape whole pool form out₀ cursor₀ samples₀ at₀ times levels marks numbers out cursor samples at =
+    Rolling form pool tape whole (engineOf (cellsOf times₀ levels₀ marks₀ numbers₀)) cursor₀ out₀ out (engineOf (cellsOf times levels marks numbers)) cursor samples at
+
+abbrev μ-loop : tie.MeasureT-loop
+μ-loop times₀ levels₀ marks₀ numbers₀ tape whole pool form out₀ cursor₀ samples₀ at₀ times levels marks numbers out cursor samples at = length tape - cursor .at
+
+loop-holds : tie.Need-loop-holds Inv-loop μ-loop
+loop-holds c = start _ _ _ _ _ _ _ _ (c .silence .ensures)
+
+same-length : tie.Need-same-length Inv-loop μ-loop
+same-length c = same-rest _ _ _ _ _ _ _ (c .before .before .before .loop .inv)
+
+returns : tie.Need-returns Inv-loop μ-loop
+returns c =
+    let w = c .before .before .before .loop .inv in
+    answered _ _ _ _ _ _ _ w (c .stopped .ensures) (ends-short _ _ _ _ _ _ _ w (sym (c .before .before .is-short .ensures) ∙ c .before .if1 .taken))
+
+same-length-2 : tie.Need-same-length-2 Inv-loop μ-loop
+same-length-2 c =
+    let w = c .before .before .before .before .before .before .before .before .before .before .before .before .before .before .loop .inv in
+    let l = c .before .before .before .before .before .before .before .before .before .before .before .before .before .before .loop in
+    let r = c .before .before .before .before .before .before .before .before .before .before .before .read .result in
+    let f = c .before .before .before .before .before .before .before .before .before .before .before .before .before .before .before .before .before .before .before .args .form in
+    same-sets _ _ _ _ _ _ _ w (ending f r (c .before .before .before .before .before .counts .result) (length (l .out) - l .at) .written) (c .before .before .before .unread .ensures .1 .1 (inside _ _ _ _ _ _ _ w) .1 .1 .0)
+
+returns-2 : tie.Need-returns-2 Inv-loop μ-loop
+returns-2 c =
+    let w = c .before .before .before .before .before .before .before .before .before .before .before .before .before .before .loop .inv in
+    let i = c .before .before .before .before .before .before .before .before .before .before .before .before .before .is-short .ensures in
+    let j = c .before .before .before .before .before .before .before .before .before .before .before .before .if1 .left in
+    let r = c .before .before .before .before .before .before .before .before .before .before .before .read in
+    let m = c .before .before .before .before .before .before .before .before .before .before .match .keys2 in
+    answered _ _ _ _ _ _ _ w (c .stopped2 .ensures)
+    (ends-unread _ _ _ _ _ _ _ w (sym i ∙ j) (r .result) (r .ensures) (not-record (r .result) m) (c .before .before .before .before .before .counts .ensures) (c .before .before .before .unread .ensures .1 .1 (inside _ _ _ _ _ _ _ w)))
+
+sub-if2 : tie.Need-sub-if2 Inv-loop μ-loop
+sub-if2 c = inside _ _ _ _ _ _ _ (c .before .before .before .before .before .before .loop .inv)
+
+same-length-3 : tie.Need-same-length-3 Inv-loop μ-loop
+same-length-3 c = same-rest _ _ _ _ _ _ _ (c .before .before .before .before .before .before .before .before .before .before .before .before .before .loop .inv)
+
+returns-3 : tie.Need-returns-3 Inv-loop μ-loop
+returns-3 c =
+    let w = c .before .before .before .before .before .before .before .before .before .before .before .before .before .loop .inv in
+    let i = c .before .before .before .before .before .before .before .before .before .before .before .before .is-short .ensures in
+    let j = c .before .before .before .before .before .before .before .before .before .before .before .if1 .left in
+    let r = c .before .before .before .before .before .before .before .before .before .before .read .ensures in
+    let g = c .before .before .before .before .before .before .before .before .r .given in
+    let v = g .0 in
+    answered _ _ _ _ _ _ _ w (c .stopped3 .ensures)
+    (ends-full _ _ _ _ _ _ _ w (sym i ∙ j) (v .0) (v .1 .0) (v .1 .1 .0) (sym r ∙ g .1) (c .before .before .room-for .ensures (v .0) _ _ (w .long)) (c .before .if2 .taken))
+
+slice-aggregate-perform : tie.Need-slice-aggregate-perform Inv-loop μ-loop
+slice-aggregate-perform c = sym (c .before .before .before .before .before .before .before .before .before .before .before .before .before .before .before .before .before .loop .inv .long)
+
+same-length-4 : tie.Need-same-length-4 Inv-loop μ-loop
+same-length-4 c =
+    let w = c .before .before .before .before .before .before .before .before .before .before .before .before .before .before .before .before .before .before .before .before .before .before .before .before .before .loop .inv in
+    let i = c .before .before .before .before .before .before .before .before .before .before .before .before .before .before .before .before .before .before .before .before .before .before .before .before .is-short .ensures in
+    let j = c .before .before .before .before .before .before .before .before .before .before .before .before .before .before .before .before .before .before .before .before .before .before .before .if1 .left in
+    let r = c .before .before .before .before .before .before .before .before .before .before .before .before .before .before .before .before .before .before .before .before .before .before .read .ensures in
+    let g = c .before .before .before .before .before .before .before .before .before .before .before .before .before .before .before .before .before .before .before .before .r .given in
+    let v = g .0 in
+    let n = c .before .before .before .before .before .before .before .before .before .before .before .before .before .before .room-for .ensures in
+    let k = c .before .before .before .before .before .before .before .before .before .before .before .before .before .if2 .left in
+    same-put _ _ _ _ _ _ _ w (sym i ∙ j) (v .0) (v .1 .0) (v .1 .1 .0) (sym r ∙ g .1) (n (v .0) _ _ (w .long)) k (c .before .before .before .before .before .before .perform .ensures .1 .1 .1)
+
+returns-4 : tie.Need-returns-4 Inv-loop μ-loop
+returns-4 c =
+    let w = c .before .before .before .before .before .before .before .before .before .before .before .before .before .before .before .before .before .before .before .before .before .before .before .before .before .loop .inv in
+    let i = c .before .before .before .before .before .before .before .before .before .before .before .before .before .before .before .before .before .before .before .before .before .before .before .before .is-short .ensures in
+    let j = c .before .before .before .before .before .before .before .before .before .before .before .before .before .before .before .before .before .before .before .before .before .before .before .if1 .left in
+    let r = c .before .before .before .before .before .before .before .before .before .before .before .before .before .before .before .before .before .before .before .before .before .before .read .ensures in
+    let g = c .before .before .before .before .before .before .before .before .before .before .before .before .before .before .before .before .before .before .before .before .r .given in
+    let v = g .0 in
+    let n = c .before .before .before .before .before .before .before .before .before .before .before .before .before .before .room-for .ensures in
+    let k = c .before .before .before .before .before .before .before .before .before .before .before .before .before .if2 .left in
+    let p = c .before .before .before .before .before .before .perform .ensures in
+    answered _ _ _ _ _ _ _ w (c .stopped4 .ensures)
+    (ends-refused _ _ _ _ _ _ _ w (sym i ∙ j) (v .0) (v .1 .0) (v .1 .1 .0) (sym r ∙ g .1) (n (v .0) _ _ (w .long)) k (p .1 .1 .1) (p .0) (sym (p .1 .1 .0) ∙ c .before .if3 .taken))
+
+loop-less : tie.Need-loop-less Inv-loop μ-loop
+loop-less c =
+    let r = c .before .before .before .before .before .before .before .before .before .before .before .before .before .before .before .before .before .before .before .before .before .read .ensures in
+    let g = c .before .before .before .before .before .before .before .before .before .before .before .before .before .before .before .before .before .before .before .r .given in
+    let v = g .0 in
+    let m = moves _ _ (v .0) (v .1 .0) (v .1 .1 .0) (sym r ∙ g .1) in
+    let x = m .0 in
+    let y = m .1 in
+    omega arith
+
+loop-again : tie.Need-loop-again Inv-loop μ-loop
+loop-again c =
+    let w = c .before .before .before .before .before .before .before .before .before .before .before .before .before .before .before .before .before .before .before .before .before .before .before .before .loop .inv in
+    let i = c .before .before .before .before .before .before .before .before .before .before .before .before .before .before .before .before .before .before .before .before .before .before .before .is-short .ensures in
+    let j = c .before .before .before .before .before .before .before .before .before .before .before .before .before .before .before .before .before .before .before .before .before .before .if1 .left in
+    let r = c .before .before .before .before .before .before .before .before .before .before .before .before .before .before .before .before .before .before .before .before .before .read .ensures in
+    let g = c .before .before .before .before .before .before .before .before .before .before .before .before .before .before .before .before .before .before .before .r .given in
+    let v = g .0 in
+    let n = c .before .before .before .before .before .before .before .before .before .before .before .before .before .room-for .ensures in
+    let k = c .before .before .before .before .before .before .before .before .before .before .before .before .if2 .left in
+    let p = c .before .before .before .before .before .perform .ensures in
+    goes-on _ _ _ _ _ _ _ w (sym i ∙ j) (v .0) (v .1 .0) (v .1 .1 .0) (sym r ∙ g .1) (n (v .0) _ _ (w .long)) k (p .1 .1 .1) (p .0) (p .1 .0) (λ h. c .if3 .left (p .1 .1 .0 ∙ h))
 
 pub run-spec : {M : Type 1} → statement M
 run-spec =
     tie.close
-    (tie.spec Inv-loop2 μ-loop2 Inv-loop4 μ-loop4 Inv-loop5 μ-loop5 Inv-loop6 μ-loop6 Inv-loop7 μ-loop7 Inv-loop3 μ-loop3 Inv-loop8 μ-loop8 Inv-loop9 μ-loop9
-    Inv-loop10 μ-loop10 Inv-loop11 μ-loop11 Inv-loop13 μ-loop13 Inv-loop12 μ-loop12 Inv-loop14 μ-loop14 Inv-loop μ-loop
-    -- Leaving: the last record's part is put, and the ways to stop; a call that is only answered
-    (λ c κs. search needs) loop-holds slice-aggregate-leave (λ c κs. search needs) same-length returns (λ c κs. search needs) same-length-2 returns-2
-    (λ c κs. search needs) (λ c. search needs) (λ c κs. search needs) same-length-3 returns-3 sub-is-full (λ c κs. search needs) same-length-4
-    returns-4 (λ c κs. search needs) (λ c κs. search needs) sub-plan-of (λ c κs. search needs) (λ c. search needs) loop-less loop-again
-    (λ c. search needs) same-length-5 returns-5
-    -- Pushes: a push
-    (λ c. search needs) mul-event element-set-from-event mul-id element-set-from-id add-s (λ c κs. search needs) loop-less-2 loop-again-2
-    (λ c. search needs) loop2-holds (λ c. search needs) (λ c. search needs) (λ c. search needs) (λ c κs. search needs) (λ c. search needs)
-    (λ c. search needs) (λ c. search needs) loop2-again (λ c. search needs) (λ c. search needs) (λ c. search needs) (λ c. search needs) loop-less-3
-    loop-again-3
-    -- Starts: a tick or block: the events that start
-    (λ c. search needs) (λ c κs. search needs) (λ c κs. search needs) loop3-holds (λ c. search needs) (λ c κs. search needs) (λ c κs. search needs)
-    loop4-holds (λ c. search needs) (λ c. search needs) (λ c. search needs) (λ c. search needs) loop4-again (λ c. search needs) (λ c. search needs)
-    (λ c κs. search needs) sub-m loop5-holds add-next mul-next element-copy-out-next mul-next-2 element-set-from-next add-j-2 loop5-less loop5-again
-    sub-m-2 mul-last element-copy-out-last loop6-holds mul-loop6 add-loop6 mul-left add-left mul-left-2 element-copy-out-left mul-right add-right
-    mul-right-2 element-copy-out-right mul-lesser-child add-lesser-child (λ c κs. search needs) mul-child element-copy-out-child
-    mul-child-2 element-set-from-child loop6-less loop6-again loop7-holds sub-p-2 mul-parent-3 element-copy-out-parent-2 precedes-requires-2 mul-parent-4
-    element-copy-out-parent-3 mul-parent-5 element-set-from-parent-2 loop7-less loop7-again mul-last-2 element-set-from-last mul-event-3 element-set-from-event-3 mul-id-2
-    element-set-from-id-2 add-s-3 loop3-less loop3-again loop3-less-2 loop3-again-2
-    -- Ends: those that end
-    loop8-holds (λ c κs. search needs) mul-event-4 element-copy-out-event (λ c κs. search needs) mul-ended element-copy-out-ended sub-n mul-last-3
-    element-copy-out-last-2 mul-last-4 element-set-from-last-2 mul-id-3 element-copy-out-id mul-id-4 element-set-from-id-3 mul-ended-2
-    element-set-from-ended add-s-4 loop8-less loop8-again loop8-less-2 loop8-again-2 (λ c κs. search needs) loop8-less-3 loop8-again-3
-    -- Mixing: the samples of those that sound
-    (λ c κs. search needs) (λ c κs. search needs) sub-set-all part-mix-start part-mix-end (λ c κs. search needs) loop9-holds mul-event-5
-    element-copy-out-event-2 sub-sound part-mix-start-2 part-mix-end-2 (λ c κs. search needs) mul-s way-write-given-s mul-s-2 way-write-given-s-2
-    add-k loop9-less loop9-again loop-less-4 loop-again-4
-    -- Edits: an edit
-    (λ c. search needs) (λ c. search needs) loop10-holds mul-x element-copy-out-x add-i loop10-less loop10-again mul-event-6 element-copy-out-event-3
-    (λ c. search needs) mul-event-7 element-set-from-event-4 loop-less-5 loop-again-5 (λ c. search needs) loop11-holds mul-stored-3
-    element-copy-out-stored-3 add-j-3 loop11-less loop11-again mul-new element-set-from-new loop-less-6 loop-again-6 mul-new-2 element-set-from-new-2
-    add-edits loop-less-7 loop-again-7 loop-less-8 loop-again-8 loop-less-9 loop-again-9
-    -- Requeues: a reset, and another rate
-    (λ c. search needs) (λ c κs. search needs) (λ c κs. search needs) loop-less-10 loop-again-10 (λ c. search needs) (λ c. search needs)
-    (λ c. search needs) add-held loop12-holds element-copy-out-event-4 mul-event-8 element-copy-out-event-5 mul-event-9 element-copy-out-event-6
-    add-k-2 loop13-holds sub-p-3 mul-parent-6 element-copy-out-parent-4 (λ c. search needs) mul-parent-7 element-set-from-parent-3 loop13-less
-    loop13-again mul-event-10 element-set-from-event-5 add-s-5 loop12-less loop12-again loop12-less-2 loop12-again-2 (λ c κs. search needs)
-    loop14-holds mul-event-11 element-copy-out-event-7 (λ c κs. search needs) mul-event-12 element-set-from-event-6 add-k-3 loop14-less loop14-again
-    (λ c. search needs) loop-less-11 loop-again-11
-    -- Creations: a creation
-    (λ c. search needs) slice-aggregate-apply (λ c κs. search needs) loop-less-12 loop-again-12)
+    (tie.spec Inv-loop μ-loop (λ c κs. search needs) loop-holds (λ c κs. search needs) (λ c κs. search needs) same-length returns
+    (λ c κs. search needs) (λ c. search needs) (λ c κs. search needs) (λ c κs. search needs) (λ c κs. search needs) same-length-2 returns-2
+    sub-if2 (λ c κs. search needs) (λ c κs. search needs) same-length-3 returns-3 slice-aggregate-perform (λ c κs. search needs)
+    (λ c κs. search needs) same-length-4 returns-4 loop-less loop-again)

@@ -1,0 +1,2 @@
+-- Everything in this library.
+pub mod Entries
