@@ -1,4 +1,4 @@
-//! The live engine's C entries (include/chakaqel.h) against the original: each call, and the tapes record by record.
+//! The live engine's C entries, by the low-level module of their Rust crate (bindings/rust), against the original: each call, and the tapes record by record.
 
 use crate::call::{Call, Curve, Mode, PushKind, Source, Timing};
 use crate::clock::bench_now;
@@ -7,55 +7,14 @@ use crate::original::sequencer::{EventId, Fade, ReplayMode, Sequencer};
 use crate::original::shared::set_next_id;
 use crate::tape::{self, Format};
 use crate::{best, head, render, rust, same, show, tapes, timed, units};
+use chakaqel::{Arrays, entries};
 use std::hint::black_box;
 use std::sync::Arc;
 
-/// The arrays of include/chakaqel.h.
-#[repr(C)]
-struct Memory {
-    times: [f64; 3588],
-    levels: [f32; 3072],
-    marks: [u32; 3072],
-    numbers: [u64; 1288],
-}
+/// An engine.
+struct Memory(Arrays);
 
-#[rustfmt::skip]
-mod raw {
-    pub type Push = unsafe extern "C" fn(t: *mut f64, l: *mut f32, m: *mut u32, n: *mut u64, told: *mut u64, start: f64, end: f64,
-        curve: u32, fade_in: f64, fade_out: f64, source: u32, a: f32, b: f32, offset: u32, length: u32, gain: f32) -> u64;
-
-    unsafe extern "C" {
-        pub fn chakaqel_create(t: *mut f64, l: *mut f32, m: *mut u32, n: *mut u64, channels: usize, mode: u32, first: u64) -> u64;
-        pub fn chakaqel_push(t: *mut f64, l: *mut f32, m: *mut u32, n: *mut u64, told: *mut u64, start: f64, end: f64, curve: u32,
-            fade_in: f64, fade_out: f64, source: u32, a: f32, b: f32, offset: u32, length: u32, gain: f32) -> u64;
-        pub fn chakaqel_push_relative(t: *mut f64, l: *mut f32, m: *mut u32, n: *mut u64, told: *mut u64, start: f64, end: f64,
-            curve: u32, fade_in: f64, fade_out: f64, source: u32, a: f32, b: f32, offset: u32, length: u32, gain: f32) -> u64;
-        pub fn chakaqel_push_duration(t: *mut f64, l: *mut f32, m: *mut u32, n: *mut u64, told: *mut u64, start: f64, end: f64,
-            curve: u32, fade_in: f64, fade_out: f64, source: u32, a: f32, b: f32, offset: u32, length: u32, gain: f32) -> u64;
-        pub fn chakaqel_edit(t: *mut f64, l: *const f32, m: *const u32, n: *mut u64, number: u64, end: f64, fade_out: f64) -> u64;
-        pub fn chakaqel_edit_relative(t: *mut f64, l: *const f32, m: *const u32, n: *mut u64, number: u64, end: f64,
-            fade_out: f64) -> u64;
-        pub fn chakaqel_tick(t: *mut f64, l: *mut f32, m: *mut u32, n: *mut u64, mark: u32, pool: *const f32, pool_length: usize,
-            out: *mut f32, out_length: usize) -> u64;
-        pub fn chakaqel_process(t: *mut f64, l: *mut f32, m: *mut u32, n: *mut u64, places: *mut u64, mark: u32, size: usize,
-            pool: *const f32, pool_length: usize, out: *mut f32, out_length: usize) -> u64;
-        pub fn chakaqel_reset(t: *mut f64, l: *mut f32, m: *mut u32, n: *mut u64);
-        pub fn chakaqel_set_sample_rate(t: *mut f64, l: *mut f32, m: *mut u32, n: *mut u64, rate: f64) -> u64;
-        pub fn chakaqel_time(t: *const f64, l: *const f32, m: *const u32, n: *const u64) -> f64;
-        pub fn chakaqel_counts(t: *const f64, l: *const f32, m: *const u32, n: *const u64, counts: *mut u64);
-        pub fn chakaqel_place(t: *const f64, l: *const f32, m: *const u32, n: *const u64, number: u64) -> u64;
-    }
-}
-
-/// The four arrays, as an entry takes them.
-macro_rules! call {
-    ($entry:expr, $memory:expr $(, $argument:expr)*) => {{
-        let memory: &mut Memory = $memory;
-        let (t, l) = (memory.times.as_mut_ptr(), memory.levels.as_mut_ptr());
-        let (m, n) = (memory.marks.as_mut_ptr(), memory.numbers.as_mut_ptr());
-        unsafe { $entry(t, l, m, n $(, $argument)*) }
-    }};
-}
+type PushEntry = fn(&mut Arrays, &mut [u64; 2], &entries::Push) -> u64;
 
 /// A source as the entries take it.
 fn numbers_of(source: Source) -> (u32, f32, f32, u32, u32) {
@@ -83,56 +42,57 @@ fn source(i: u64) -> Source {
 
 impl Memory {
     fn new(channels: usize, mode: u32) -> Box<Self> {
-        let mut memory = Box::new(Memory {
-            times: [0.0; 3588],
-            levels: [0.0; 3072],
-            marks: [0; 3072],
-            numbers: [0; 1288],
-        });
+        let mut memory = Box::new(Memory(Arrays::zeroed()));
         assert_eq!(memory.create(channels, mode, 1), 0);
         memory
     }
 
     fn create(&mut self, channels: usize, mode: u32, first: u64) -> u64 {
-        call!(raw::chakaqel_create, self, channels, mode, first)
+        entries::create(&mut self.0, channels, mode, first)
     }
 
     fn push(
         &mut self,
-        entry: raw::Push,
+        entry: PushEntry,
         times: [f64; 4],
         curve: u32,
         from: Source,
         gain: f32,
     ) -> u64 {
-        let mut told = [0; 2];
-        let (kind, a, b, offset, length) = numbers_of(from);
-        let ([start, end, fade_in, fade_out], t) = (times, told.as_mut_ptr());
-        call!(
-            entry, self, t, start, end, curve, fade_in, fade_out, kind, a, b, offset, length, gain
-        )
+        let (source, a, b, offset, length) = numbers_of(from);
+        let [start, end, fade_in, fade_out] = times;
+        let push = entries::Push {
+            start,
+            end,
+            curve,
+            fade_in,
+            fade_out,
+            source,
+            a,
+            b,
+            offset,
+            length,
+            gain,
+        };
+        entry(&mut self.0, &mut [0; 2], &push)
     }
 
     fn process(&mut self, size: usize, pool: &[f32], out: &mut [f32]) -> u64 {
-        let mut places = [0; 3];
-        let (p, o, n) = (places.as_mut_ptr(), out.as_mut_ptr(), out.len());
-        let (q, k) = (pool.as_ptr(), pool.len());
-        call!(raw::chakaqel_process, self, p, 0, size, q, k, o, n)
+        entries::process(&mut self.0, &mut [0; 3], 0, size, pool, out)
     }
 
     fn tick(&mut self, pool: &[f32], out: &mut [f32]) -> u64 {
-        let (o, n) = (out.as_mut_ptr(), out.len());
-        call!(raw::chakaqel_tick, self, 0, pool.as_ptr(), pool.len(), o, n)
+        entries::tick(&mut self.0, 0, pool, out)
     }
 
     fn reset(&mut self) {
-        call!(raw::chakaqel_reset, self)
+        entries::reset(&mut self.0)
     }
 
     fn push_events(&mut self, n: u64, fade: f64) {
         for i in 0..n {
             let times = [0.0, 1000.0, fade, fade];
-            let code = self.push(raw::chakaqel_push, times, (i % 2) as u32, source(i), 1.0);
+            let code = self.push(entries::push, times, (i % 2) as u32, source(i), 1.0);
             assert_eq!(code, 0);
         }
     }
@@ -248,7 +208,7 @@ fn memory(mode: u32, n: u64, sound: bool, pool: &[f32]) -> Box<Memory> {
     let mut s = Memory::new(1, mode);
     for i in 0..n {
         let times = [if sound { 0.0 } else { 900.0 }, 1000.0, 0.0, 0.0];
-        assert_eq!(s.push(raw::chakaqel_push, times, 0, source(i), 1.0), 0);
+        assert_eq!(s.push(entries::push, times, 0, source(i), 1.0), 0);
     }
     if sound {
         s.tick(pool, &mut [0.0]);
@@ -259,12 +219,8 @@ fn memory(mode: u32, n: u64, sound: bool, pool: &[f32]) -> Box<Memory> {
 /// Pushes of the other two kinds: 256 on an empty engine, which a reset empties again; the reset counts on both sides.
 fn other_pushes(pool: &Arc<[f32]>) {
     for (entry, relative, what) in [
-        (
-            raw::chakaqel_push_relative as raw::Push,
-            true,
-            "push_relative",
-        ),
-        (raw::chakaqel_push_duration, false, "push_duration"),
+        (entries::push_relative as PushEntry, true, "push_relative"),
+        (entries::push_duration, false, "push_duration"),
     ] {
         let mut s = Memory::new(1, 1);
         let mut r = original(ReplayMode::None, 0, false, pool);
@@ -305,11 +261,10 @@ fn edits(n: u64, sound: bool, relative: bool, pool: &Arc<[f32]>) {
     let mut ours = || {
         for i in 1..=n {
             let entry = match relative {
-                true => raw::chakaqel_edit_relative,
-                false => raw::chakaqel_edit,
+                true => entries::edit_relative,
+                false => entries::edit,
             };
-            let memory = black_box(&mut *s);
-            call!(entry, memory, i, 950.0, 0.0);
+            entry(&mut black_box(&mut *s).0, i, 950.0, 0.0);
         }
     };
     let mut theirs = || {
@@ -343,7 +298,7 @@ fn resets(mode: u32, rate: bool, pool: &Arc<[f32]>) {
             let start = bench_now();
             if rate {
                 let hertz = 44_100.0 + (k % 2) as f64;
-                call!(raw::chakaqel_set_sample_rate, &mut s, hertz);
+                entries::set_sample_rate(&mut s.0, hertz);
             } else {
                 s.reset();
             }
@@ -391,10 +346,10 @@ fn resets(mode: u32, rate: bool, pool: &Arc<[f32]>) {
 }
 
 fn readers(pool: &Arc<[f32]>) {
-    let mut s = memory(1, 256, true, pool);
+    let s = memory(1, 256, true, pool);
     let r = original(ReplayMode::None, 256, true, pool);
     let mut time = || {
-        black_box(call!(raw::chakaqel_time, black_box(&mut *s)));
+        black_box(entries::time(&black_box(&*s).0));
     };
     let mut rust_time = || {
         black_box(black_box(&r).time());
@@ -407,10 +362,7 @@ fn readers(pool: &Arc<[f32]>) {
     );
     show("time", times, 1);
     let mut counts = || {
-        let mut counts = [0; 4];
-        let memory = black_box(&mut *s);
-        call!(raw::chakaqel_counts, memory, counts.as_mut_ptr());
-        black_box(counts);
+        black_box(entries::counts(&black_box(&*s).0));
     };
     let mut rust_counts = || {
         black_box(black_box(&r).counts());
@@ -424,8 +376,7 @@ fn readers(pool: &Arc<[f32]>) {
     show("counts", times, 1);
     let mut place = || {
         for i in 1..=256 {
-            let memory = black_box(&mut *s);
-            black_box(call!(raw::chakaqel_place, memory, i));
+            black_box(entries::place(&black_box(&*s).0, i));
         }
     };
     let mut rust_place = || {
@@ -492,10 +443,10 @@ fn play(s: &mut Memory, tape: &[u8], pool: &[f32], out: &mut [u8]) -> usize {
         rest = &rest[length..];
         match call {
             Call::Push(kind, p, _) => {
-                let entry: raw::Push = match kind {
-                    PushKind::Absolute => raw::chakaqel_push,
-                    PushKind::Relative => raw::chakaqel_push_relative,
-                    PushKind::Duration => raw::chakaqel_push_duration,
+                let entry: PushEntry = match kind {
+                    PushKind::Absolute => entries::push,
+                    PushKind::Relative => entries::push_relative,
+                    PushKind::Duration => entries::push_duration,
                 };
                 let times = [p.start, p.end, p.fade_in, p.fade_out];
                 let curve = u32::from(p.curve == Curve::Smooth);
@@ -503,10 +454,10 @@ fn play(s: &mut Memory, tape: &[u8], pool: &[f32], out: &mut [u8]) -> usize {
             }
             Call::Edit(timing, e) => {
                 let entry = match timing {
-                    Timing::Absolute => raw::chakaqel_edit,
-                    Timing::Relative => raw::chakaqel_edit_relative,
+                    Timing::Absolute => entries::edit,
+                    Timing::Relative => entries::edit_relative,
                 };
-                call!(entry, s, e.number, e.end, e.fade_out);
+                entry(&mut s.0, e.number, e.end, e.fade_out);
             }
             Call::Tick => {
                 if s.tick(pool, &mut row[..channels]) != 0 {
@@ -534,7 +485,7 @@ fn play(s: &mut Memory, tape: &[u8], pool: &[f32], out: &mut [u8]) -> usize {
             }
             Call::Reset => s.reset(),
             Call::Rate(rate) => {
-                call!(raw::chakaqel_set_sample_rate, s, rate);
+                entries::set_sample_rate(&mut s.0, rate);
             }
             _ => unreachable!("a script's call on a tape"),
         }

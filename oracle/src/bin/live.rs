@@ -1,9 +1,11 @@
-//! Compares the live engine's C entries, linked from their static library, with the original call by call: `live compare LISTS [SEED]`.
+//! Compares the live engine's C entries, by the low-level module of their Rust crate, with the original call by call:
+//! `live compare LISTS [SEED]`.
 //! A list is the calls of a random tape or script, with a random pool, on memory that holds any bits before the creation. After each
 //! call the answer, the samples, the clock, the counts, all lists, the index and the stored edits are those of the original; the
 //! counts of places, and the samples of marked calls, are the second ledger's. A refused call leaves every bit as it was, and so
 //! does a number that names no mode, curve, source or mark. Before the creation some calls are made on that memory.
 
+use chakaqel::{Arrays, entries};
 use oracle::call::{Call, Curve, Edit, MixOrder, Mode, Push, PushKind, Source, Timing};
 use oracle::engine::Engine;
 use oracle::generate::pools::pool_for;
@@ -15,68 +17,6 @@ use oracle::session::Session;
 use oracle::state::{Counts, EditState, EventState, State, sample_bits};
 use oracle::tape::{self, Format};
 use std::process::ExitCode;
-
-/// The arrays of include/chakaqel.h.
-#[repr(C)]
-#[derive(Clone)]
-struct Memory {
-    times: [f64; 3588],
-    levels: [f32; 3072],
-    marks: [u32; 3072],
-    numbers: [u64; 1288],
-}
-
-type PushEntry = unsafe extern "C" fn(
-    *mut f64,
-    *mut f32,
-    *mut u32,
-    *mut u64,
-    *mut u64,
-    f64,
-    f64,
-    u32,
-    f64,
-    f64,
-    u32,
-    f32,
-    f32,
-    u32,
-    u32,
-    f32,
-) -> u64;
-
-#[rustfmt::skip]
-unsafe extern "C" {
-    fn chakaqel_create(t: *mut f64, l: *mut f32, m: *mut u32, n: *mut u64, channels: usize, mode: u32, first: u64) -> u64;
-    fn chakaqel_push(t: *mut f64, l: *mut f32, m: *mut u32, n: *mut u64, told: *mut u64, start: f64, end: f64, curve: u32,
-        fade_in: f64, fade_out: f64, source: u32, a: f32, b: f32, offset: u32, length: u32, gain: f32) -> u64;
-    fn chakaqel_push_relative(t: *mut f64, l: *mut f32, m: *mut u32, n: *mut u64, told: *mut u64, start: f64, end: f64, curve: u32,
-        fade_in: f64, fade_out: f64, source: u32, a: f32, b: f32, offset: u32, length: u32, gain: f32) -> u64;
-    fn chakaqel_push_duration(t: *mut f64, l: *mut f32, m: *mut u32, n: *mut u64, told: *mut u64, start: f64, end: f64, curve: u32,
-        fade_in: f64, fade_out: f64, source: u32, a: f32, b: f32, offset: u32, length: u32, gain: f32) -> u64;
-    fn chakaqel_edit(t: *mut f64, l: *const f32, m: *const u32, n: *mut u64, number: u64, end: f64, fade_out: f64) -> u64;
-    fn chakaqel_edit_relative(t: *mut f64, l: *const f32, m: *const u32, n: *mut u64, number: u64, end: f64, fade_out: f64) -> u64;
-    fn chakaqel_tick(t: *mut f64, l: *mut f32, m: *mut u32, n: *mut u64, mark: u32, pool: *const f32, pool_length: usize,
-        out: *mut f32, out_length: usize) -> u64;
-    fn chakaqel_process(t: *mut f64, l: *mut f32, m: *mut u32, n: *mut u64, places: *mut u64, mark: u32, size: usize,
-        pool: *const f32, pool_length: usize, out: *mut f32, out_length: usize) -> u64;
-    fn chakaqel_reset(t: *mut f64, l: *mut f32, m: *mut u32, n: *mut u64);
-    fn chakaqel_set_sample_rate(t: *mut f64, l: *mut f32, m: *mut u32, n: *mut u64, rate: f64) -> u64;
-    fn chakaqel_time(t: *const f64, l: *const f32, m: *const u32, n: *const u64) -> f64;
-    fn chakaqel_counts(t: *const f64, l: *const f32, m: *const u32, n: *const u64, counts: *mut u64);
-    fn chakaqel_place(t: *const f64, l: *const f32, m: *const u32, n: *const u64, number: u64) -> u64;
-}
-
-/// The four arrays, as an entry takes them.
-macro_rules! call {
-    ($entry:expr, $memory:expr $(, $argument:expr)*) => {{
-        let memory = &mut $memory;
-        let (t, l) = (memory.times.as_mut_ptr(), memory.levels.as_mut_ptr());
-        let (m, n) = (memory.marks.as_mut_ptr(), memory.numbers.as_mut_ptr());
-        // Safety: the arrays and what else is lent are this caller's, with their lengths.
-        unsafe { $entry(t, l, m, n $(, $argument)*) }
-    }};
-}
 
 // Where crates/memory/src/lib.rt has the parts.
 const WAITING: usize = 0;
@@ -90,102 +30,88 @@ const COUNTS: usize = 1280;
 /// What lent places hold before a call, so that those left alone show.
 const MARK: u64 = 0xA5A5_A5A5;
 
-impl Memory {
-    fn random(random: &mut Random) -> Box<Self> {
-        let mut memory = Box::new(Memory {
-            times: [0.0; 3588],
-            levels: [0.0; 3072],
-            marks: [0; 3072],
-            numbers: [0; 1288],
-        });
-        memory.times.fill_with(|| f64::from_bits(random.next()));
-        memory
-            .levels
-            .fill_with(|| f32::from_bits(random.next() as u32));
-        memory.marks.fill_with(|| random.next() as u32);
-        memory.numbers.fill_with(|| random.next());
-        memory
-    }
+fn any_bits(random: &mut Random) -> Box<Arrays> {
+    let mut memory = Box::new(Arrays::zeroed());
+    memory.times.fill_with(|| f64::from_bits(random.next()));
+    memory
+        .levels
+        .fill_with(|| f32::from_bits(random.next() as u32));
+    memory.marks.fill_with(|| random.next() as u32);
+    memory.numbers.fill_with(|| random.next());
+    memory
+}
 
-    fn same_bits(&self, other: &Memory) -> bool {
-        let times = self.times.iter().zip(&other.times);
-        let levels = self.levels.iter().zip(&other.levels);
-        times.into_iter().all(|(x, y)| x.to_bits() == y.to_bits())
-            && levels.into_iter().all(|(x, y)| x.to_bits() == y.to_bits())
-            && self.marks == other.marks
-            && self.numbers == other.numbers
-    }
-
-    fn event(&self, slot: usize) -> EventState {
-        let at = 4 * slot;
-        let mark = self.marks[at];
-        let (a, b) = (self.levels[at + 2], self.levels[at + 3]);
-        let source = match mark % 4 {
-            0 => Source::Held { level: a },
-            1 => Source::Ramp { value: a, step: b },
-            _ => Source::Clip {
-                offset: self.marks[at + 1],
-                length: self.marks[at + 2],
-            },
-        };
-        let ramp = matches!(source, Source::Ramp { .. });
-        let clip = matches!(source, Source::Clip { .. });
-        EventState {
-            start: self.times[at].to_bits(),
-            end: self.times[at + 1].to_bits(),
-            fade_in: self.times[at + 2].to_bits(),
-            fade_out: self.times[at + 3].to_bits(),
-            gain: self.levels[at].to_bits(),
-            curve: if mark < 4 {
-                Curve::Power
-            } else {
-                Curve::Smooth
-            },
-            source,
-            value: if ramp {
-                sample_bits(self.levels[at + 1])
-            } else {
-                0
-            },
-            place: if clip { self.marks[at + 3] } else { 0 },
-            number: self.numbers[slot],
-        }
-    }
-
-    fn events(&self, first: usize, count: u64) -> Vec<EventState> {
-        (first..first + count as usize)
-            .map(|slot| self.event(slot))
-            .collect()
-    }
-
-    fn edits(&self) -> Vec<EditState> {
-        let edit = |j: usize| EditState {
-            number: self.numbers[EDIT_NUMBERS + j],
-            end: self.times[EDIT_TIMES + 2 * j].to_bits(),
-            fade_out: self.times[EDIT_TIMES + 2 * j + 1].to_bits(),
-        };
-        let mut edits: Vec<EditState> = (0..self.numbers[COUNTS + 3] as usize).map(edit).collect();
-        edits.sort_by_key(|edit| edit.number);
-        edits
-    }
-
-    /// How many events on the way from the heap's first free place to its top come after a start and a number (Paper 13).
-    fn rise(&self, start: f64, number: u64) -> u64 {
-        let mut risen = 0;
-        let mut place = self.numbers[COUNTS] as usize;
-        while place > 0 {
-            place = (place - 1) / 2;
-            let order = self.times[4 * (WAITING + place)].total_cmp(&start);
-            risen += u64::from(order.then(self.numbers[place].cmp(&number)).is_gt());
-        }
-        risen
+fn event(memory: &Arrays, slot: usize) -> EventState {
+    let at = 4 * slot;
+    let mark = memory.marks[at];
+    let (a, b) = (memory.levels[at + 2], memory.levels[at + 3]);
+    let source = match mark % 4 {
+        0 => Source::Held { level: a },
+        1 => Source::Ramp { value: a, step: b },
+        _ => Source::Clip {
+            offset: memory.marks[at + 1],
+            length: memory.marks[at + 2],
+        },
+    };
+    let ramp = matches!(source, Source::Ramp { .. });
+    let clip = matches!(source, Source::Clip { .. });
+    EventState {
+        start: memory.times[at].to_bits(),
+        end: memory.times[at + 1].to_bits(),
+        fade_in: memory.times[at + 2].to_bits(),
+        fade_out: memory.times[at + 3].to_bits(),
+        gain: memory.levels[at].to_bits(),
+        curve: if mark < 4 {
+            Curve::Power
+        } else {
+            Curve::Smooth
+        },
+        source,
+        value: if ramp {
+            sample_bits(memory.levels[at + 1])
+        } else {
+            0
+        },
+        place: if clip { memory.marks[at + 3] } else { 0 },
+        number: memory.numbers[slot],
     }
 }
 
+fn events(memory: &Arrays, first: usize, count: u64) -> Vec<EventState> {
+    (first..first + count as usize)
+        .map(|slot| event(memory, slot))
+        .collect()
+}
+
+fn edits(memory: &Arrays) -> Vec<EditState> {
+    let edit = |j: usize| EditState {
+        number: memory.numbers[EDIT_NUMBERS + j],
+        end: memory.times[EDIT_TIMES + 2 * j].to_bits(),
+        fade_out: memory.times[EDIT_TIMES + 2 * j + 1].to_bits(),
+    };
+    let mut edits: Vec<EditState> = (0..memory.numbers[COUNTS + 3] as usize).map(edit).collect();
+    edits.sort_by_key(|edit| edit.number);
+    edits
+}
+
+/// How many events on the way from the heap's first free place to its top come after a start and a number (Paper 13).
+fn rise(memory: &Arrays, start: f64, number: u64) -> u64 {
+    let mut risen = 0;
+    let mut place = memory.numbers[COUNTS] as usize;
+    while place > 0 {
+        place = (place - 1) / 2;
+        let order = memory.times[4 * (WAITING + place)].total_cmp(&start);
+        risen += u64::from(order.then(memory.numbers[place].cmp(&number)).is_gt());
+    }
+    risen
+}
+
+type PushEntry = fn(&mut Arrays, &mut [u64; 2], &entries::Push) -> u64;
+
 /// The live engine behind its C entries.
 struct Live {
-    memory: Box<Memory>,
-    before: Box<Memory>,
+    memory: Box<Arrays>,
+    before: Box<Arrays>,
     random: Random,
     /// Whether calls are made without a look at what a refused one leaves: in the millions of blocks of `Call::Spin`.
     plain: bool,
@@ -211,7 +137,7 @@ impl Live {
 
     fn remember(&mut self) {
         if !self.plain {
-            *self.before = (*self.memory).clone();
+            self.before.clone_from(&self.memory);
         }
     }
 
@@ -228,54 +154,31 @@ impl Live {
         let at = self.memory.times[CLOCK];
         let random = self.random.below(8);
         let channels = self.memory.numbers[COUNTS + 4] as usize;
-        let entries: [PushEntry; 3] = [
-            chakaqel_push,
-            chakaqel_push_relative,
-            chakaqel_push_duration,
+        let pushes: [PushEntry; 3] = [
+            entries::push,
+            entries::push_relative,
+            entries::push_duration,
         ];
-        let memory = &mut self.memory;
-        let (p, o) = (pool.as_ptr(), out.as_mut_ptr());
+        let memory = &mut *self.memory;
         let code = match random {
-            0 => call!(chakaqel_create, *memory, 1, odd, 1),
-            1 => call!(chakaqel_tick, *memory, odd, p, pool.len(), o, channels),
+            0 => entries::create(memory, 1, odd, 1),
+            1 => entries::tick(memory, odd, pool, &mut out[..channels]),
             2 => {
-                let (n, k) = (pool.len(), 64 * channels);
-                call!(
-                    chakaqel_process,
-                    *memory,
-                    places.as_mut_ptr(),
-                    odd,
-                    64,
-                    p,
-                    n,
-                    o,
-                    k
-                )
+                let out = &mut out[..64 * channels];
+                entries::process(memory, &mut places, odd, 64, pool, out)
             }
             k => {
-                let entry = entries[k as usize % 3];
                 let (curve, source) = if k < 6 {
                     (odd, k as u32 % 3)
                 } else {
                     (k as u32 % 2, odd.max(3))
                 };
-                let t = told.as_mut_ptr();
-                call!(
-                    entry,
-                    *memory,
-                    t,
-                    at,
-                    at + 1.0,
+                let push = entries::Push {
                     curve,
-                    0.0,
-                    0.0,
                     source,
-                    0.5,
-                    0.0,
-                    0,
-                    9,
-                    1.0
-                )
+                    ..plain_push(at, at + 1.0)
+                };
+                pushes[k as usize % 3](memory, &mut told, &push)
             }
         };
         assert_eq!(code, 14, "a number that names nothing");
@@ -283,6 +186,23 @@ impl Live {
         assert!(out.iter().all(|x| *x == -1.0), "14 wrote samples");
         assert!(self.memory.same_bits(&self.before), "14 changed the engine");
         self.unknown += 1;
+    }
+}
+
+/// A push of a held level, without fades, at gain 1.0.
+fn plain_push(start: f64, end: f64) -> entries::Push {
+    entries::Push {
+        start,
+        end,
+        curve: 0,
+        fade_in: 0.0,
+        fade_out: 0.0,
+        source: 0,
+        a: 0.5,
+        b: 0.0,
+        offset: 0,
+        length: 9,
+        gain: 1.0,
     }
 }
 
@@ -304,40 +224,30 @@ fn on_any_memory(live: &mut Live, pool: &Pool) {
     for _ in 0..8 {
         live.remember();
         let number = live.memory.numbers[live.random.below(1288) as usize];
-        let mut told = [MARK; 5];
-        let t = told.as_mut_ptr();
-        let (p, k) = (pool.as_ptr(), pool.len());
-        let (o, n) = (out.as_mut_ptr(), channels as usize);
+        let (mut told, mut places) = ([MARK; 2], [MARK; 3]);
         let memory = &mut *live.memory;
         let code = match live.random.below(7) {
-            0 => call!(chakaqel_tick, *memory, 1, p, k, o, n),
-            1 | 2 => call!(chakaqel_process, *memory, t, 0, 64, p, k, o, 64 * n),
-            3 => call!(chakaqel_edit, *memory, number, end, 1.0),
-            4 => call!(chakaqel_set_sample_rate, *memory, 9.0),
+            0 => entries::tick(memory, 1, pool, &mut out[..channels as usize]),
+            1 | 2 => entries::process(memory, &mut places, 0, 64, pool, &mut out),
+            3 => entries::edit(memory, number, end, 1.0),
+            4 => entries::set_sample_rate(memory, 9.0),
             5 => {
-                call!(chakaqel_reset, *memory);
+                entries::reset(memory);
                 0
             }
             _ => {
-                call!(
-                    chakaqel_push,
-                    *memory,
-                    t,
-                    start,
-                    end,
-                    1,
-                    0.0,
-                    1.0,
-                    1,
-                    0.5,
-                    0.5,
-                    0,
-                    0,
-                    1.0
-                )
+                let push = entries::Push {
+                    curve: 1,
+                    fade_out: 1.0,
+                    source: 1,
+                    b: 0.5,
+                    ..plain_push(start, end)
+                };
+                entries::push(memory, &mut told, &push)
             }
         };
-        let _ = live.told(code, code == 0 || told == [MARK; 5]);
+        let kept = (told, places) == ([MARK; 2], [MARK; 3]);
+        let _ = live.told(code, code == 0 || kept);
     }
 }
 
@@ -354,7 +264,7 @@ impl Player for Live {
 
     fn create(seed: u64, channels: u8, mode: Mode, first: u64) -> (Self, Answer) {
         let mut random = Random::new(seed);
-        let memory = Memory::random(&mut random);
+        let memory = any_bits(&mut random);
         let mut live = Live {
             before: memory.clone(),
             memory,
@@ -368,7 +278,7 @@ impl Player for Live {
             Mode::All => 0,
             Mode::None => 1,
         };
-        let code = call!(chakaqel_create, *live.memory, channels.into(), mode, first);
+        let code = entries::create(&mut live.memory, channels.into(), mode, first);
         let answer = match code {
             0 => Answer::Done,
             code => Answer::Refused(code as u8),
@@ -393,29 +303,27 @@ impl Player for Live {
             Source::Clip { offset, length } => (2, odd, odd, offset, length),
         };
         let (entry, from): (PushEntry, f64) = match kind {
-            PushKind::Absolute => (chakaqel_push, push.start),
+            PushKind::Absolute => (entries::push, push.start),
             PushKind::Relative => (
-                chakaqel_push_relative,
+                entries::push_relative,
                 push.start + self.memory.times[CLOCK],
             ),
-            PushKind::Duration => (chakaqel_push_duration, push.start),
+            PushKind::Duration => (entries::push_duration, push.start),
         };
-        let code = call!(
-            entry,
-            *self.memory,
-            told.as_mut_ptr(),
-            push.start,
-            push.end,
+        let numbers = entries::Push {
+            start: push.start,
+            end: push.end,
             curve,
-            push.fade_in,
-            push.fade_out,
+            fade_in: push.fade_in,
+            fade_out: push.fade_out,
             source,
             a,
             b,
             offset,
             length,
-            push.gain()
-        );
+            gain: push.gain(),
+        };
+        let code = entry(&mut self.memory, &mut told, &numbers);
         if let Err(refusal) = self.told(code, told == [MARK; 2]) {
             return Answer::Refused(refusal);
         }
@@ -423,7 +331,7 @@ impl Player for Live {
         let rise = if from < self.before.times[CLOCK + 1] {
             0
         } else {
-            self.before.rise(from, told[0])
+            rise(&self.before, from, told[0])
         };
         assert_eq!(told[1], rise, "the rise");
         Answer::Number(told[0])
@@ -432,13 +340,13 @@ impl Player for Live {
     fn edit(&mut self, timing: Timing, edit: &Edit) -> Answer {
         self.remember();
         let entry = match timing {
-            Timing::Absolute => chakaqel_edit,
-            Timing::Relative => chakaqel_edit_relative,
+            Timing::Absolute => entries::edit,
+            Timing::Relative => entries::edit_relative,
         };
-        let code = call!(entry, *self.memory, edit.number, edit.end, edit.fade_out);
+        let code = entry(&mut self.memory, edit.number, edit.end, edit.fade_out);
         let accepted = match code {
-            256 => Answer::Past,
-            257 => Answer::Stored,
+            entries::PAST => Answer::Past,
+            entries::STORED => Answer::Stored,
             _ => Answer::Applied,
         };
         number(self.told(code, true), accepted)
@@ -448,16 +356,7 @@ impl Player for Live {
         self.try_unknown(pool);
         self.remember();
         let mark = u32::from(order == MixOrder::Backward);
-        let (o, n) = (output.as_mut_ptr(), output.len());
-        let code = call!(
-            chakaqel_tick,
-            *self.memory,
-            mark,
-            pool.as_ptr(),
-            pool.len(),
-            o,
-            n
-        );
+        let code = entries::tick(&mut self.memory, mark, pool, output);
         // Whether a refused one has written samples is seen where the outputs are compared.
         number(self.told(code, true), Answer::Done)
     }
@@ -474,18 +373,8 @@ impl Player for Live {
         self.remember();
         let mark = u32::from(order == MixOrder::Backward);
         let mut places = [MARK; 3];
-        let (o, n) = (output.as_mut_ptr(), output.len());
-        let code = call!(
-            chakaqel_process,
-            *self.memory,
-            places.as_mut_ptr(),
-            mark,
-            size,
-            pool.as_ptr(),
-            pool.len(),
-            o,
-            n
-        );
+        let memory = &mut self.memory;
+        let code = entries::process(memory, &mut places, mark, size, pool, output);
         let check = self.told(code, places == [MARK; 3]);
         if check.is_ok() {
             let [kept, forced, edge] = places;
@@ -495,13 +384,13 @@ impl Player for Live {
     }
 
     fn reset(&mut self) -> Answer {
-        call!(chakaqel_reset, *self.memory);
+        entries::reset(&mut self.memory);
         Answer::Done
     }
 
     fn rate(&mut self, rate: f64) -> Answer {
         self.remember();
-        let code = call!(chakaqel_set_sample_rate, *self.memory, rate);
+        let code = entries::set_sample_rate(&mut self.memory, rate);
         number(self.told(code, true), Answer::Done)
     }
 
@@ -514,36 +403,26 @@ impl Player for Live {
     }
 
     fn counts(&self) -> Counts {
-        let mut counts = [MARK; 4];
-        let m = &*self.memory;
-        let (t, l, k, n) = (
-            m.times.as_ptr(),
-            m.levels.as_ptr(),
-            m.marks.as_ptr(),
-            m.numbers.as_ptr(),
-        );
-        // Safety: four places are lent.
-        unsafe { chakaqel_counts(t, l, k, n, counts.as_mut_ptr()) };
+        let [waiting, sounding, finished, let_go] = entries::counts(&self.memory);
         Counts {
-            waiting: counts[0] as usize,
-            sounding: counts[1] as usize,
-            finished: counts[2] as usize,
-            let_go: counts[3],
+            waiting: waiting as usize,
+            sounding: sounding as usize,
+            finished: finished as usize,
+            let_go,
         }
     }
 
     fn state(&self) -> State {
         let m = &*self.memory;
         let n = &m.numbers;
-        let mut waiting = m.events(WAITING, n[COUNTS]);
+        let mut waiting = events(m, WAITING, n[COUNTS]);
         waiting.sort_by(|a, b| {
             let starts = f64::from_bits(a.start).total_cmp(&f64::from_bits(b.start));
             starts.then(a.number.cmp(&b.number))
         });
-        let sounding = m.events(SOUNDING, n[COUNTS + 1]);
-        let finished = m.events(FINISHED, n[COUNTS + 2]);
-        let edits = m.edits();
-        let (t, l, k) = (m.times.as_ptr(), m.levels.as_ptr(), m.marks.as_ptr());
+        let sounding = events(m, SOUNDING, n[COUNTS + 1]);
+        let finished = events(m, FINISHED, n[COUNTS + 2]);
+        let edits = edits(m);
         // The place of every number that is held or edited, and of some that are not.
         let lists = [&waiting, &sounding, &finished].into_iter().flatten();
         let mut known: Vec<u64> = lists.map(|event| event.number).collect();
@@ -552,13 +431,10 @@ impl Player for Live {
         known.sort_unstable();
         known.dedup();
         let place = |number: u64| {
-            // Safety: nothing is written.
-            let place = unsafe { chakaqel_place(t, l, k, n.as_ptr(), number) };
-            (place != 256).then_some((number, place as usize))
+            let place = entries::place(m, number);
+            (place != entries::NO_PLACE).then_some((number, place as usize))
         };
         let index = known.into_iter().filter_map(place).collect();
-        // Safety: nothing is written.
-        let clock = unsafe { chakaqel_time(t, l, k, n.as_ptr()) };
         State {
             waiting,
             sounding,
@@ -566,7 +442,7 @@ impl Player for Live {
             edits,
             index,
             let_go: self.counts().let_go,
-            clock: clock.to_bits(),
+            clock: entries::time(m).to_bits(),
             threshold: m.times[CLOCK + 1].to_bits(),
             rate: m.times[CLOCK + 2].to_bits(),
             duration: m.times[CLOCK + 3].to_bits(),
