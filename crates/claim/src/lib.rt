@@ -11,6 +11,7 @@ use mixing::Span;
 use ready::Ready;
 use sequencer::Outcome;
 
+// Hands the event on: it only names the declared types.
 pub fn uses(
     event: Event,
     _stored: StoredEdit,

@@ -146,6 +146,7 @@ pub struct Placings {
 }
 
 impl Placings {
+    // No place has been counted.
     pub fn new() -> Placings
         ensures { λ r. ⌜ r ≡ noPlacings ⌝ }
     {

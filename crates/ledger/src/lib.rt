@@ -6,6 +6,7 @@ use event::Placings;
 use event::ReplayMode;
 use event::StoredEdit;
 
+// Hands the event on: it only names the declared types.
 pub fn uses(
     event: Event,
     _stored: StoredEdit,

@@ -4,6 +4,7 @@ use event::Event;
 use event::ReplayMode;
 use event::StoredEdit;
 
+// Hands the event on: it only names the declared types.
 pub fn uses(event: Event, _stored: StoredEdit, _mode: ReplayMode) -> Event
     ensures { λ r. ⌜ r ≡ event ⌝ }
 {

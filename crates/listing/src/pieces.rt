@@ -14,6 +14,7 @@ fn has_room(len: usize, at: usize, n: usize) -> bool
     if len < at { false } else { n <= len - at }
 }
 
+// Puts the bytes into `out` from `at` on and answers where they end. Where they have no room nothing is written, and the answer is `at`.
 pub fn put_bytes(bytes: &[u8], out: &mut [u8], at: usize) -> usize
     ensures { λ r. ⌜ text (now (out .exit)) r ≡ add (now (bytes .entry)) (text (now (out .entry)) at) ⌝ }
 {
@@ -30,6 +31,7 @@ pub fn put_bytes(bytes: &[u8], out: &mut [u8], at: usize) -> usize
     at
 }
 
+// Puts the number in decimal digits, as `put_bytes` puts bytes.
 pub fn put_decimal(n: u64, out: &mut [u8], at: usize) -> usize
     ensures { λ r. ⌜ text (now (out .exit)) r ≡ add (decimal n) (text (now (out .entry)) at) ⌝ }
 {

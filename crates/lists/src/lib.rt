@@ -165,6 +165,7 @@ pub fn gone(mode: ReplayMode, let_go: u64, past_len: usize) -> u64
     }
 }
 
+// How many are left: all in mode All, none in mode None.
 pub fn kept(mode: ReplayMode, past_len: usize) -> usize
     ensures { λ r. ⌜ r ≡ keptBy mode «past_len» ⌝ }
 {

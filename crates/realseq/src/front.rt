@@ -132,6 +132,7 @@ impl SequencerBackend {
         }
     }
 
+    // Queues the push of an event from `start_time` to `end_time`, in seconds. Answers its number, or the first refusal that applies.
     pub fn push(
         self,
         start_time: f64,
@@ -183,6 +184,7 @@ impl SequencerBackend {
         )
     }
 
+    // The same; the event ends at `start_time + duration`.
     pub fn push_duration(
         self,
         start_time: f64,
@@ -254,6 +256,7 @@ impl SequencerBackend {
         }
     }
 
+    // Queues another end and fade-out, in seconds, for the event with that number. Answers that it is queued, or the first refusal that applies.
     pub fn edit(self, id: EventId, end_time: f64, fade_out: f64) -> Outcome
         ensures { λ r. ⌜ r ≡ edits absoluteEnd self id «end_time» «fade_out» ⌝ }
     {

@@ -32,6 +32,7 @@ pub struct Returned {
 }
 
 impl Message {
+    // Whether the message is a reset.
     pub fn is_reset(self) -> bool
         ensures { λ r. ⌜ r ≡ isReset self ⌝ }
     {
@@ -70,6 +71,7 @@ impl Message {
 }
 
 impl Messages {
+    // No message is queued.
     pub fn new() -> Messages
         ensures { λ r. ⌜ r ≡ noMessages ⌝ }
     {
@@ -104,6 +106,7 @@ impl Messages {
         total
     }
 
+    // The message goes to the queue's end. A full queue of 64 stays as it is.
     pub fn push(mut self, message: Message) -> Messages
         ensures { λ r. ⌜ r ≡ pushed self message ⌝ }
     {
@@ -119,6 +122,7 @@ impl Messages {
         self
     }
 
+    // The oldest message. Where none is queued, what the first place holds.
     pub fn peek(self) -> Message
         ensures { λ r. ⌜ r ≡ peeked self ⌝ }
     {
@@ -128,6 +132,7 @@ impl Messages {
         message
     }
 
+    // The oldest message leaves. An empty queue stays as it is.
     pub fn pop(mut self) -> Messages
         ensures { λ r. ⌜ r ≡ popped self ⌝ }
     {
@@ -143,6 +148,7 @@ impl Messages {
 }
 
 impl Returned {
+    // No number has been returned.
     pub fn new() -> Returned
         ensures { λ r. ⌜ r ≡ noReturned ⌝ }
     {
@@ -152,6 +158,7 @@ impl Returned {
         }
     }
 
+    // Every number has been taken.
     pub fn empty(mut self) -> Returned
         ensures { λ r. ⌜ r ≡ emptied self ⌝ }
     {

@@ -37,6 +37,7 @@ pub struct Left {
     pub each: usize,
 }
 
+// No record has left anything.
 pub fn nothing() -> Left
     ensures { λ r. ⌜ r ≡ noneLeft ⌝ }
 {

@@ -15,6 +15,7 @@ use event::Fade;
 use event::Source;
 use event::Unit;
 
+// The lesser of the two.
 pub fn least(a: usize, b: usize) -> usize
     ensures { λ r. ⌜ r ≡ min a b ⌝ }
 {

@@ -11,12 +11,14 @@ fn wide(x: u8) -> u64
     x as u64
 }
 
+// The lesser of the two.
 pub fn least(a: usize, b: usize) -> usize
     ensures { λ r. ⌜ r ≡ min a b ⌝ }
 {
     if a < b { a } else { b }
 }
 
+// The byte at place i, 0 past the end.
 pub fn byte(bs: &[u8], i: usize) -> u8
     ensures { λ r. ⌜ r ≡ getD (now (bs .entry)) i 0 ⌝ }
 {
@@ -46,24 +48,28 @@ pub fn word(bs: &[u8], at: usize, width: usize) -> u64
     low(&bs[at..], width)
 }
 
+// The little-endian number of four bytes from `at` on.
 pub fn word32(bs: &[u8], at: usize) -> u32
     ensures { λ r. ⌜ r ≡ field (now (bs .entry)) at 4 ⌝ }
 {
     word(bs, at, 4) as u32
 }
 
+// The little-endian number of eight bytes from `at` on.
 pub fn word64(bs: &[u8], at: usize) -> u64
     ensures { λ r. ⌜ r ≡ field (now (bs .entry)) at 8 ⌝ }
 {
     word(bs, at, 8)
 }
 
+// The f64 of eight bytes from `at` on.
 pub fn f64_at(bs: &[u8], at: usize) -> f64
     ensures { λ r. ⌜ r ≡ ofBits binary64 (field (now (bs .entry)) at 8) ⌝ }
 {
     float_bits::f64_from_bits(word64(bs, at))
 }
 
+// The f32 of four bytes from `at` on.
 pub fn f32_at(bs: &[u8], at: usize) -> f32
     ensures { λ r. ⌜ r ≡ ofBits binary32 (field (now (bs .entry)) at 4) ⌝ }
 {

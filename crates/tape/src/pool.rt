@@ -20,6 +20,7 @@ fn fill(pool: &mut [f32])
     }
 }
 
+// The pool of `trail`: 4,096 samples, sample k being k/4096.
 pub fn trail_pool() -> [f32; 4096]
     ensures { λ r. ⌜ r ≡ trailPool ⌝ }
 {

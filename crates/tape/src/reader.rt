@@ -175,6 +175,7 @@ fn gain_of(bs: &[u8]) -> f32
     1.0
 }
 
+// The push record that begins the bytes, field by field.
 pub fn push_of(bs: &[u8]) -> PushRecord
     ensures { λ r. ⌜ r ≡ pushOf (now (bs .entry)) ⌝ }
 {

@@ -146,12 +146,14 @@ pub fn record(who: &[u8], fd: i32, at: u64, first: bool) -> Read
 
 // ---- small values
 
+// Whether both hold.
 pub fn both(a: bool, b: bool) -> bool
     ensures { λ r. ⌜ r ≡ (a && b) ⌝ }
 {
     if a { b } else { false }
 }
 
+// The larger of the two.
 pub fn larger(a: u32, b: u32) -> u32
     ensures { λ r. ⌜ r ≡ max a b ⌝ }
 {

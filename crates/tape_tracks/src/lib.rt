@@ -17,12 +17,14 @@ pub fn row() -> [u64; 256]
     [0; 256]
 }
 
+// The number at place i of a row, 0 past its end.
 pub fn at(row: &[u64], i: usize) -> u64
     ensures { λ r. ⌜ r ≡ getD (now (row .entry)) i 0 ⌝ }
 {
     if i < row.len() { row[i] } else { 0 }
 }
 
+// Puts x at place i of a row; past its end nothing changes.
 pub fn set(row: &mut [u64], i: usize, x: u64)
     ensures { λ _. ⌜ now (row .exit) ≡ setAt (now (row .entry)) i x ⌝ }
 {

@@ -150,6 +150,7 @@ fn other_arguments(
     }
 }
 
+// The arguments by which a record of that kind and call is written.
 pub fn arguments_of(kind: u8, call: Call) -> Arguments
     ensures { λ r. ⌜ r ≡ argumentsOf kind call ⌝ }
 {

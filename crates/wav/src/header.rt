@@ -137,6 +137,7 @@ fn blank() -> [u8; 94]
     [0; 94]
 }
 
+// A WAV's header: channels, frames a second, and how many frames follow it.
 pub fn header(channels: u8, rate: u32, frames: u32) -> [u8; 94]
     ensures { λ r. ⌜ r ≡ headerBytes channels rate frames ⌝ }
 {
