@@ -11,7 +11,7 @@ use sequencer::{Answer, Outcome, Sequencer};
 use tape::reader::{Call, PushRecord};
 
 // The engine after a call, the refusal or 0, and what an accepted tick or block has left in the output: `each` samples of every channel, `stride` places apart.
-#[derive(Drop)]
+#[derive(Clone, Copy)]
 pub struct Applied {
     pub sequencer: Sequencer,
     pub refusal: u64,

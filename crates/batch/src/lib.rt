@@ -14,7 +14,7 @@ use tape::reader::PushRecord;
 use tape::{fields, reader};
 
 // How many pushes were carried out, and what ended the run: 0 if nothing did.
-#[derive(Drop)]
+#[derive(Clone, Copy)]
 pub struct Batch {
     pub pushed: usize,
     pub ended: u64,

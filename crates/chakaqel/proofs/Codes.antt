@@ -16,7 +16,7 @@ use Rattle.sequencer.specs.declared.Sequencer.{Sequencer}
 use Rattle.sequencer.specs.Rendering.{ticks, tick_outs, blocks, block_outs}
 use Rattle.sequencer.specs.Rises.{pushes_told}
 use Rattle.memory.specs.Memory.{Cells, engine_of}
-use Rattle.live.specs.Contracts.{Refuses}
+use Rattle.live.specs.CallContracts.{Refuses}
 use Rattle.chakaqel.specs.Entries.{or_else, code_of, refusal, told_by, places_by}
 
 -- a number of a refusal is that of a refused call

@@ -13,7 +13,7 @@ use tape::reader::{Call, Cursor, PushRecord, Read};
 // ---- calls
 
 // The desk after a call, its answer, the refusal or 0, and what an accepted tick or block has left in the output.
-#[derive(Drop)]
+#[derive(Clone, Copy)]
 struct Played {
     backend: SequencerBackend,
     answer: Answer,

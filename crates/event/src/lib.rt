@@ -10,11 +10,11 @@ use floats::Order;
 use math::{sine_ease, smooth5};
 
 // The number of an event. It never serves as a list place.
-#[derive(Drop)]
+#[derive(Clone, Copy)]
 pub struct EventId(pub u64);
 
 // Fade curves.
-#[derive(Drop)]
+#[derive(Clone, Copy)]
 pub enum Fade {
     Power,
     Smooth,
@@ -33,21 +33,21 @@ impl Fade {
 }
 
 // Whether events are replayed after a reset.
-#[derive(Drop)]
+#[derive(Clone, Copy)]
 pub enum ReplayMode {
     All,
     None,
 }
 
 // The order in which a tick or block adds the sounding events: as their list has them, or, with document 02's mark (Paper 9), from its end.
-#[derive(Drop)]
+#[derive(Clone, Copy)]
 pub enum MixOrder {
     Forward,
     Backward,
 }
 
 // What an event plays: a held level; a ramp's first value and its step; a clip's offset and length in the pool.
-#[derive(Drop)]
+#[derive(Clone, Copy)]
 pub enum Source {
     Held(f32),
     Ramp(f32, f32),
@@ -55,7 +55,7 @@ pub enum Source {
 }
 
 // A source with its place: a ramp's next value, and how many samples a clip has given.
-#[derive(Drop)]
+#[derive(Clone, Copy)]
 pub struct Unit {
     pub source: Source,
     pub value: f32,
@@ -138,7 +138,7 @@ impl Unit {
 }
 
 // How a place of a block came: kept as rounded, forced, or set at an edge without the index step.
-#[derive(Drop)]
+#[derive(Clone, Copy)]
 pub enum Placing {
     Kept,
     Forced,
@@ -146,7 +146,7 @@ pub enum Placing {
 }
 
 // How many places came each way. Counts wrap at 2^64; a block has at most 1,024 places.
-#[derive(Drop)]
+#[derive(Clone, Copy)]
 pub struct Placings {
     pub kept: u64,
     pub forced: u64,
@@ -187,7 +187,7 @@ impl Placings {
 }
 
 // A scheduled source, and the level at which it plays.
-#[derive(Drop)]
+#[derive(Clone, Copy)]
 pub struct Event {
     pub start_time: f64,
     pub end_time: f64,
@@ -200,14 +200,14 @@ pub struct Event {
 }
 
 // A change to an event.
-#[derive(Drop)]
+#[derive(Clone, Copy)]
 pub struct Edit {
     pub end_time: f64,
     pub fade_out: f64,
 }
 
 // An edit that is stored for the event of its number: an entry of the Rust's `edit_map`.
-#[derive(Drop)]
+#[derive(Clone, Copy)]
 pub struct StoredEdit {
     pub id: EventId,
     pub edit: Edit,

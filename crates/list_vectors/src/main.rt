@@ -53,7 +53,7 @@ fn seen(digest: u64, event: Event) -> u64 {
 
 // ---- the heap
 
-#[derive(Drop)]
+#[derive(Clone, Copy)]
 struct HeapRun {
     heap: Ready,
     seed: u32,
@@ -115,7 +115,7 @@ fn heap_digest(rounds: u64) -> u64 {
 
 // ---- the index
 
-#[derive(Drop)]
+#[derive(Clone, Copy)]
 struct IndexRun {
     index: ActiveMap,
     seed: u32,
@@ -199,7 +199,7 @@ fn index_digest(rounds: u64) -> u64 {
 
 // ---- the edits
 
-#[derive(Drop)]
+#[derive(Clone, Copy)]
 struct EditRun {
     edits: EditMap,
     seed: u32,

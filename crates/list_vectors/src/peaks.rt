@@ -42,7 +42,7 @@ fn run_length(r: u64, most: usize) -> usize
     if most < n { most } else { n }
 }
 
-#[derive(Drop)]
+#[derive(Clone, Copy)]
 struct Fed {
     peak: RunningPeak,
     count: u64,

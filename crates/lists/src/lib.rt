@@ -9,14 +9,14 @@ ghost use Rattle.lists.specs.Past.{gone_by, kept_by};
 use event::{Edit, EventId, ReplayMode, StoredEdit};
 
 // A place in a list.
-#[derive(Drop)]
+#[derive(Clone, Copy)]
 pub enum Found {
     At(usize),
     Nothing,
 }
 
 // The index: place i holds the number of the event at place i of the sounding list.
-#[derive(Drop)]
+#[derive(Clone, Copy)]
 pub struct ActiveMap {
     pub ids: [EventId; 256],
     pub len: usize,
@@ -44,14 +44,14 @@ impl ActiveMap {
 }
 
 // The edits stored for events that are not sounding, one per number, in order of first storing.
-#[derive(Drop)]
+#[derive(Clone, Copy)]
 pub struct EditMap {
     pub items: [StoredEdit; 256],
     pub len: usize,
 }
 
 // The edit of a number.
-#[derive(Drop)]
+#[derive(Clone, Copy)]
 pub enum FoundEdit {
     Stored(Edit),
     Missing,

@@ -14,7 +14,7 @@ use Rattle.sequencer.specs.Moves.{held_at, all_to_ready}
 use Rattle.sequencer.specs.Resets.{emptied_lists, rewound_ready, reset_by, resets, re_rated, rates}
 use Rattle.memory.specs.Memory.{Cells, cells_of, event_at, mode_if, engine_of}
 use Rattle.memory.specs.Laws.{Sized, with_number, number_sized, waiting_is, sounding_is, finished_is, let_go_is, sounds-at, finished_at}
-use Rattle.live.specs.Contracts.{gone_all}
+use Rattle.live.specs.CallContracts.{gone_all}
 use Rattle.memory.specs.Clock.{with_time, time_sized, clock_is, threshold_is, rate-is, duration_is, mode_in, rate_in}
 use Rattle.memory.specs.Edits.{edits_are}
 

@@ -22,7 +22,7 @@ use Rattle.sequencer.specs.Moves.{released_past, ready_to_active, active_to_past
 use Rattle.memory.specs.Memory.{Cells, engine_of}
 use Rattle.memory.specs.Laws.{Sized}
 use Rattle.memory.specs.Clock.{with_time, clock_is, clock_in, duration_in}
-use Rattle.live.specs.Contracts.{span_from, block_mixed}
+use Rattle.live.specs.CallContracts.{span_from, block_mixed}
 
 -- ---- a is the engine once the finished are let go, b once those that are due have started, and f the arrays once those that have ended are finished
 

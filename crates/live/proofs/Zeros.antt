@@ -14,7 +14,7 @@ use Rattle.lists.specs.Edits as Edits
 use Rattle.sequencer.specs.Creation.{fresh_engine}
 use Rattle.memory.specs.Rows.{rows}
 use Rattle.memory.specs.Memory.{Cells, cells_of, ease_if, source_in, event_at, id_at, edit_at, mode_if, engine_of}
-use Rattle.live.specs.Contracts.{mode_number}
+use Rattle.live.specs.CallContracts.{mode_number}
 
 rows_all : {A : Type 0} (g : ℕ → A) (x : A) (i n : ℕ) → ((j : ℕ) → i ≤ j → j < i + n → g j ≡ x) → rows g i n ≡ replicate n x
 unfolding rows

@@ -1,2 +1,2 @@
 -- Everything in this library.
-pub mod Contracts
+pub mod CallContracts

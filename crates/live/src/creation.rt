@@ -3,7 +3,7 @@ ghost use Rattle.std.specs.Prelude.{◌≡◌, replicate};
 ghost use Rattle.floats.specs.Arithmetic.{zeroᶠ};
 ghost use Rattle.sequencer.specs.Creation.{fresh_engine, refuses_creation, created};
 ghost use Rattle.memory.specs.Memory.{before, after, engine_of, mode_if};
-ghost use Rattle.live.specs.Contracts.{mode_number};
+ghost use Rattle.live.specs.CallContracts.{mode_number};
 
 use event::ReplayMode;
 use memory::{CHANNELS, DURATION, Levels, MODE, Marks, NEXT, Numbers, RATE, THRESHOLD, Times};

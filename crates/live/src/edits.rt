@@ -3,7 +3,7 @@ ghost use Rattle.std.specs.Prelude.{◌≡◌, ◌+◌, ◌*◌, ◌<◌, slice_
 ghost use Rattle.ledger.specs.Calls.{absolute_end, relative_end};
 ghost use Rattle.sequencer.specs.Edits as Edits;
 ghost use Rattle.memory.specs.Memory.{before, after, engine_of};
-ghost use Rattle.live.specs.Contracts.{Refuses};
+ghost use Rattle.live.specs.CallContracts.{Refuses};
 
 use event::{Edit, EventId};
 use list_moves::{place, store_edit};

@@ -6,7 +6,7 @@ ghost use Rattle.refusals.specs.Refusals.{push_refusal};
 ghost use Rattle.sequencer.specs.Pushes.{pushes_to};
 ghost use Rattle.sequencer.specs.Rises.{rise_to, pushes_told};
 ghost use Rattle.memory.specs.Memory.{before, after, engine_of};
-ghost use Rattle.live.specs.Contracts.{Refuses};
+ghost use Rattle.live.specs.CallContracts.{Refuses};
 
 use event::{Event, EventId, Fade, Source};
 use list_moves::push_event;
@@ -16,14 +16,14 @@ use sequencer::Answer;
 
 // What a push answers: the event's number or the refusal, and how many levels the event rose in the heap (document 02, Paper 13):
 // 0 where it was refused or went straight to the sounding list.
-#[derive(Drop)]
+#[derive(Clone, Copy)]
 pub struct Pushed {
     pub answer: Answer,
     pub rise: usize,
 }
 
 // A push's times: start and end (or duration) as given, how long it lasts, and from when until when its event is to last.
-#[derive(Drop)]
+#[derive(Clone, Copy)]
 struct Stated {
     start: f64,
     end: f64,
@@ -33,7 +33,7 @@ struct Stated {
 }
 
 // What a push gives besides.
-#[derive(Drop)]
+#[derive(Clone, Copy)]
 struct Voice {
     fade_ease: Fade,
     fade_in: f64,

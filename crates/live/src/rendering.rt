@@ -7,7 +7,7 @@ ghost use Rattle.sequencer.specs.Parts.{with_sounding};
 ghost use Rattle.sequencer.specs.Moves.{advanced};
 ghost use Rattle.sequencer.specs.Rendering.{mix_place, tick_pass, places_pass, ticks, tick_outs, blocks, block_outs};
 ghost use Rattle.memory.specs.Memory.{before, after, engine_of};
-ghost use Rattle.live.specs.Contracts.{Refuses, span_from, block_mixed};
+ghost use Rattle.live.specs.CallContracts.{Refuses, span_from, block_mixed};
 
 use event::{MixOrder, Placings};
 use list_moves::{active_to_past, ready_to_active, release_past};

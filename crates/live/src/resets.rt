@@ -3,7 +3,7 @@ ghost use Rattle.std.specs.Prelude.{◌≡◌, ◌+◌, ◌%◌, ◌^◌, min, s
 ghost use Rattle.floats.specs.Arithmetic.{zeroᶠ, -∞};
 ghost use Rattle.sequencer.specs.Resets.{emptied_lists, resets, rates};
 ghost use Rattle.memory.specs.Memory.{before, after, engine_of};
-ghost use Rattle.live.specs.Contracts.{Refuses, gone_all};
+ghost use Rattle.live.specs.CallContracts.{Refuses, gone_all};
 
 use list_moves::{all_to_ready, rewind_ready};
 use memory::{

@@ -5,27 +5,27 @@ ghost use Rattle.lodge.specs.Hours.{in_use};
 ghost use Rattle.lodge.specs.Search.{orderly, first_from, answered};
 
 // Open from `opens` up to but without `closes`, both minutes of the week.
-#[derive(Drop)]
+#[derive(Clone, Copy)]
 pub struct Window {
     pub opens: u64,
     pub closes: u64,
 }
 
 // The first `count` windows are in use.
-#[derive(Drop)]
+#[derive(Clone, Copy)]
 pub struct Hours {
     pub windows: [Window; 16],
     pub count: usize,
 }
 
 // A minute, or a refusal: 21 or 22.
-#[derive(Drop)]
+#[derive(Clone, Copy)]
 pub enum Answer {
     At(u64),
     Refused(u64),
 }
 
-#[derive(Drop)]
+#[derive(Clone, Copy)]
 pub enum Found {
     At(u64),
     Nothing,

@@ -77,7 +77,7 @@ pub fn event_at(
 // ---- writing
 
 // What a slot keeps of a curve and a source.
-#[derive(Drop)]
+#[derive(Clone, Copy)]
 struct SourceMarks {
     mark: u32,
     a: f32,

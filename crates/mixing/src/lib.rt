@@ -107,7 +107,7 @@ pub fn after_tick(mut event: Event) -> Event
 // ---- a block
 
 // A block: how many samples, of which 64 count at most; the clock at its beginning and at its end; the rate and the duration of a sample.
-#[derive(Drop)]
+#[derive(Clone, Copy)]
 pub struct Span {
     pub size: usize,
     pub clock: f64,
@@ -125,7 +125,7 @@ pub fn cleared_places(size: usize) -> usize
 }
 
 // A place in the block, and how it came.
-#[derive(Drop)]
+#[derive(Clone, Copy)]
 struct Place {
     at: usize,
     how: Placing,

@@ -21,14 +21,14 @@ use memory::{
 use runs::least;
 
 // How many clips the stretch has, or a refusal: 17.
-#[derive(Drop)]
+#[derive(Clone, Copy)]
 pub enum Found {
     Clips(usize),
     Refused(u64),
 }
 
 // The event's number, or that no such event waits, or a refusal: 17.
-#[derive(Drop)]
+#[derive(Clone, Copy)]
 pub enum FirstWaiting {
     Number(EventId),
     Nothing,

@@ -9,7 +9,7 @@ ghost use Rattle.peak.specs.Steps.{state, empty, suffix_maxima_to, created, serv
 // `row[..place]` holds the magnitudes fed since the last turn, `recent` the greatest of them.
 // Once there was a turn, `row[place..window]` holds, of the `window` samples before it, the greatest from each place on.
 // A window of 1 makes no turn and needs no row: `recent` is the last magnitude.
-#[derive(Drop)]
+#[derive(Clone, Copy)]
 pub struct RunningPeak {
     pub window: usize,
     pub place: usize,
@@ -18,14 +18,14 @@ pub struct RunningPeak {
 }
 
 // What a call leaves: the running peak, and 0 or the refusal 20.
-#[derive(Drop)]
+#[derive(Clone, Copy)]
 pub struct Outcome {
     pub peak: RunningPeak,
     pub refusal: u64,
 }
 
 // The greatest magnitude, or the refusal 20.
-#[derive(Drop)]
+#[derive(Clone, Copy)]
 pub enum Reading {
     Peak(u32),
     Refused(u64),

@@ -19,7 +19,7 @@ use room::room_for;
 use tape::reader::{Call, Cursor, Read};
 
 // The cursor before the next record, how many bytes of the output are in use, and what stopped it.
-#[derive(Drop)]
+#[derive(Clone, Copy)]
 pub struct Played {
     pub cursor: Cursor,
     pub used: usize,
@@ -27,7 +27,7 @@ pub struct Played {
 }
 
 // A record's refusal or 0, and how many bytes of the output are in use after it.
-#[derive(Drop)]
+#[derive(Clone, Copy)]
 struct Done {
     refusal: u64,
     used: usize,

@@ -19,7 +19,7 @@ pub fn room() -> [f32; 262144]
 }
 
 // Where the samples stand in a file, and how many bytes they take; `known` where they are samples of one channel of 32-bit floats.
-#[derive(Drop)]
+#[derive(Clone, Copy)]
 struct Place {
     from: usize,
     size: usize,
@@ -120,7 +120,7 @@ pub fn option_line() -> [u8; 124]
 }
 
 // How many samples a pool has; `good` where it can be used.
-#[derive(Drop)]
+#[derive(Clone, Copy)]
 pub struct Loaded {
     pub count: usize,
     pub good: bool,
@@ -138,7 +138,7 @@ fn refused(text: &[u8]) -> Loaded
 }
 
 // The bytes at hand, those that are still to come, the samples so far, and what ends it: nothing yet (0), the end (1), a read that fails (2), too many samples (3).
-#[derive(Drop)]
+#[derive(Clone, Copy)]
 struct Filling {
     have: usize,
     left: usize,

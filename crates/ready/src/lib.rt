@@ -5,7 +5,7 @@ ghost use Rattle.ready.specs.Waiting.{emptied, peeked, pushed, popped, risen_by}
 
 use event::{Event, EventId, Fade, Source, Unit};
 
-#[derive(Drop)]
+#[derive(Clone, Copy)]
 pub struct Ready {
     pub items: [Event; 256],
     pub len: usize,

@@ -13,7 +13,7 @@ pub use queues::{Message, Messages, Returned, Slot};
 use sequencer::Sequencer;
 
 // `messages` go from the front to the back, `returned` are the numbers that go from the back to the front. The next number that a push is given is the engine's `next`.
-#[derive(Drop)]
+#[derive(Clone, Copy)]
 pub struct SequencerBackend {
     pub sequencer: Sequencer,
     pub messages: Messages,
@@ -21,7 +21,7 @@ pub struct SequencerBackend {
 }
 
 // What a call answers: the number of a queued push; that an edit or a reset is queued; done; of a block, how its places came; or the number of a refusal.
-#[derive(Drop)]
+#[derive(Clone, Copy)]
 pub enum Answer {
     Number(EventId),
     Queued,
@@ -30,7 +30,7 @@ pub enum Answer {
     Refused(u64),
 }
 
-#[derive(Drop)]
+#[derive(Clone, Copy)]
 pub struct Outcome {
     pub backend: SequencerBackend,
     pub answer: Answer,

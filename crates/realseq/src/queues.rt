@@ -4,7 +4,7 @@ ghost use Rattle.realseq.specs.Queues.{no_messages, is_reset, kind_of, counted, 
 
 use event::{Edit, Event, EventId};
 
-#[derive(Drop)]
+#[derive(Clone, Copy)]
 pub enum Message {
     Reset,
     Push(Event),
@@ -14,13 +14,13 @@ pub enum Message {
 }
 
 // An array holds structs.
-#[derive(Drop)]
+#[derive(Clone, Copy)]
 pub struct Slot {
     pub message: Message,
 }
 
 // First in first out: `count` messages from place `first` on, around the array.
-#[derive(Drop)]
+#[derive(Clone, Copy)]
 pub struct Messages {
     pub slots: [Slot; 64],
     pub first: usize,
@@ -28,7 +28,7 @@ pub struct Messages {
 }
 
 // Numbers, oldest first.
-#[derive(Drop)]
+#[derive(Clone, Copy)]
 pub struct Returned {
     pub ids: [EventId; 64],
     pub count: usize,

@@ -12,14 +12,14 @@ use sequencer::Counts;
 use tape::reader::Read;
 
 // What a record leaves: its samples as bytes (the C entry), or its lines of the listing (`trail`).
-#[derive(Drop)]
+#[derive(Clone, Copy)]
 pub enum Form {
     Bytes,
     Lines,
 }
 
 // Why the records stopped: the tape's end; refusal 1, 14 or 15; no room for the next record; fewer bytes left than a record may need, of a tape that goes on.
-#[derive(Drop)]
+#[derive(Clone, Copy)]
 pub enum Pause {
     End,
     Refused(u8),
@@ -28,7 +28,7 @@ pub enum Pause {
 }
 
 // The record that was carried out or refused last: its kind, its refusal or 0, and how many channels it has and samples in each. Before the first record there is none.
-#[derive(Drop)]
+#[derive(Clone, Copy)]
 pub struct Left {
     pub any: bool,
     pub kind: u8,
@@ -178,7 +178,7 @@ fn room_at(len: usize, at: usize) -> usize
 }
 
 // How many bytes of the output are in use, and what stopped the tape.
-#[derive(Drop)]
+#[derive(Clone, Copy)]
 pub struct Stop {
     pub used: usize,
     pub pause: Pause,

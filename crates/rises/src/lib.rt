@@ -14,14 +14,14 @@ use tape::reader::{Call, PushRecord};
 use tape_writer::calls::arguments_of;
 
 // How many levels n pushes rise in all, or a refusal: 23.
-#[derive(Drop)]
+#[derive(Clone, Copy)]
 pub enum Total {
     Levels(usize),
     Refused(u64),
 }
 
 // The tape's length in bytes, or a refusal: 23, or 19 where the buffer is shorter than the tape.
-#[derive(Drop)]
+#[derive(Clone, Copy)]
 pub enum Laid {
     Bytes(usize),
     Refused(u64),

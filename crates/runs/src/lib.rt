@@ -75,7 +75,7 @@ fn copy_first(s: &mut [f32], xs: &[f32], at: usize, n: usize)
 }
 
 // Of a clip's next n samples: how many the clip has, how many of these the pool has, and from which place on.
-#[derive(Drop)]
+#[derive(Clone, Copy)]
 struct ClipPart {
     left: usize,
     has: usize,

@@ -20,7 +20,7 @@ use lists::EditMap;
 pub use readers::Counts;
 
 // Arrays with counts for the Rust's heap and lists. Place i of `active_map` is the number of the event at place i of `active`.
-#[derive(Drop)]
+#[derive(Clone, Copy)]
 pub struct Sequencer {
     pub ready: [Event; 256],
     pub ready_len: usize,
@@ -43,7 +43,7 @@ pub struct Sequencer {
 }
 
 // What a call answers: the number of a pushed event; what became of an edit; done; of a block, how its places came; or the number of a refusal.
-#[derive(Drop)]
+#[derive(Clone, Copy)]
 pub enum Answer {
     Number(EventId),
     Applied,
@@ -54,7 +54,7 @@ pub enum Answer {
     Refused(u64),
 }
 
-#[derive(Drop)]
+#[derive(Clone, Copy)]
 pub struct Outcome {
     pub sequencer: Sequencer,
     pub answer: Answer,
@@ -62,7 +62,7 @@ pub struct Outcome {
 
 // What a push gives: its outcome, and how many levels its event rose in the heap (document 02, Paper 13); 0 where it was refused or went straight
 // to the sounding list.
-#[derive(Drop)]
+#[derive(Clone, Copy)]
 pub struct Pushed {
     pub sequencer: Sequencer,
     pub answer: Answer,

@@ -7,7 +7,7 @@ use event::EventId;
 use lists::{ActiveMap, Found};
 
 // How many events wait, sound, are finished, and were let go.
-#[derive(Drop)]
+#[derive(Clone, Copy)]
 pub struct Counts {
     pub waiting: usize,
     pub sounding: usize,

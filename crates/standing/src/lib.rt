@@ -10,7 +10,7 @@ use sequencer::{Answer, Sequencer};
 use tape::reader::EditRecord;
 
 // Where a number stands that a push was answered with.
-#[derive(Drop)]
+#[derive(Clone, Copy)]
 pub enum Standing {
     Waiting,
     Sounding,

@@ -6,14 +6,14 @@ use crate::fields;
 use event::{EventId, Fade, ReplayMode, Source};
 
 // A place on a tape, and whether the record there is the tape's first.
-#[derive(Drop)]
+#[derive(Clone, Copy)]
 pub struct Cursor {
     pub at: usize,
     pub first: bool,
 }
 
 // What a push says. By duration, `end_time` is the duration.
-#[derive(Drop)]
+#[derive(Clone, Copy)]
 pub struct PushRecord {
     pub start_time: f64,
     pub end_time: f64,
@@ -24,14 +24,14 @@ pub struct PushRecord {
     pub gain: f32,
 }
 
-#[derive(Drop)]
+#[derive(Clone, Copy)]
 pub struct EditRecord {
     pub id: EventId,
     pub end_time: f64,
     pub fade_out: f64,
 }
 
-#[derive(Drop)]
+#[derive(Clone, Copy)]
 pub enum Call {
     Create {
         channels: u8,
@@ -50,7 +50,7 @@ pub enum Call {
 }
 
 // A call with its kind and the next cursor; a refusal, 14 or 15, with the kind that stands there; or the tape's end.
-#[derive(Drop)]
+#[derive(Clone, Copy)]
 pub enum Read {
     Record { kind: u8, call: Call, next: Cursor },
     Refused { kind: u8, number: u8 },

@@ -9,7 +9,7 @@ use tape::reader::{Call, Cursor, Read};
 
 // The bytes that `render` writes where there is room for all, and the samples of each channel among them, both 2 ^ 64 - 1 where there are more; the channels;
 // the rate of the last samples (44,100 where there are none) and whether all are at one rate; and what ended the tape: refusal 1, 14 or 15, or 0 at its end.
-#[derive(Drop)]
+#[derive(Clone, Copy)]
 pub struct Extent {
     pub bytes: u64,
     pub frames: u64,
@@ -19,7 +19,7 @@ pub struct Extent {
     pub ended: u64,
 }
 
-#[derive(Drop)]
+#[derive(Clone, Copy)]
 pub struct Pace {
     pub time: f64,
     pub rate: f64,
@@ -28,7 +28,7 @@ pub struct Pace {
 }
 
 // The pace after a record, whether it is refused as 1, and the frames that it gives.
-#[derive(Drop)]
+#[derive(Clone, Copy)]
 pub struct Paced {
     pub pace: Pace,
     pub refused: bool,

@@ -21,7 +21,7 @@ pub fn shift(buf: &mut [u8], at: usize, have: usize) -> usize
 }
 
 // How many bytes came behind the first `have`, none at the end; `failed` where they cannot be read.
-#[derive(Drop)]
+#[derive(Clone, Copy)]
 pub struct Came {
     pub count: usize,
     pub failed: bool,

@@ -12,7 +12,7 @@ use tape::reader::{Cursor, Read};
 // ---- arguments
 
 // Which argument names the tape, and which the pool's file; 0 is none.
-#[derive(Drop)]
+#[derive(Clone, Copy)]
 struct Places {
     tape: usize,
     pool: usize,
@@ -71,7 +71,7 @@ fn load(argument: usize, pool: &mut [f32]) -> Loaded
 }
 
 // An open tape, the length of its name, and how many samples the pool has; `good` where it can be played.
-#[derive(Drop)]
+#[derive(Clone, Copy)]
 pub struct Opened {
     pub fd: i32,
     pub name: usize,

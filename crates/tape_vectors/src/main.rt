@@ -48,7 +48,7 @@ fn mixed_channels(
     d
 }
 
-#[derive(Drop)]
+#[derive(Clone, Copy)]
 struct Played {
     records: u64,
     digest: u64,

@@ -26,7 +26,7 @@ fn curve_number(curve: Fade) -> u64
 }
 
 // A source's number, and the arguments that it takes.
-#[derive(Drop)]
+#[derive(Clone, Copy)]
 struct SourceArguments {
     source: u64,
     value: f32,

@@ -11,7 +11,7 @@ use float_bits::{f32_to_bits, f64_to_bits};
 use tape::reader;
 
 // A record's kind and its call's arguments. Those that the kind, or the source, does not take are not looked at.
-#[derive(Drop)]
+#[derive(Clone, Copy)]
 pub struct Arguments {
     pub kind: u64,
     pub channels: u64,
@@ -36,14 +36,14 @@ pub struct Arguments {
 }
 
 // The next free place, or a refusal: 14 or 19.
-#[derive(Drop)]
+#[derive(Clone, Copy)]
 pub enum Written {
     Next(usize),
     Refused(u64),
 }
 
 // A record's fields in their order: numbers, each in so many bytes. Those that are not there have the width 0.
-#[derive(Drop)]
+#[derive(Clone, Copy)]
 struct Parts {
     widths: [usize; 10],
     numbers: [u64; 10],

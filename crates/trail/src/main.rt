@@ -20,7 +20,7 @@ fn write_out(text: &[u8], used: usize) -> bool {
 }
 
 // How many bytes of the tape are at hand, and whether they are all that is left of it.
-#[derive(Drop)]
+#[derive(Clone, Copy)]
 struct Hand {
     have: usize,
     whole: bool,

@@ -141,7 +141,7 @@ fn stop_of(r: Read) -> u64 {
 }
 
 // The tape as far as it is played: the engine, the clips that are held, the accepted pushes, the first clip's number, what was played before the clock's 0, the last mark of the strip, and the last call's refusal.
-#[derive(Drop)]
+#[derive(Clone, Copy)]
 struct Played {
     sequencer: Sequencer,
     count: usize,

@@ -2,7 +2,7 @@
 use sequencer::{Answer, Sequencer};
 
 // What a page is drawn by: whether this is the time to draw, how long the tape plays, how many clips were laid and from which number on, and how many channels.
-#[derive(Drop)]
+#[derive(Clone, Copy)]
 pub(crate) struct Page {
     pub(crate) draw: bool,
     pub(crate) total: u64,
@@ -12,7 +12,7 @@ pub(crate) struct Page {
 }
 
 // The last mark of the strip.
-#[derive(Drop)]
+#[derive(Clone, Copy)]
 pub(crate) struct LastMark {
     pub(crate) x: u64,
     pub(crate) row: u64,

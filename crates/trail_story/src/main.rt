@@ -59,7 +59,7 @@ fn enter_if(
 // ---- lines
 
 // Ticks and blocks in which nothing started or finished: how many, the clock before the first, and the peak of all.
-#[derive(Drop)]
+#[derive(Clone, Copy)]
 struct Quiet {
     calls: u64,
     since: u64,
@@ -151,7 +151,7 @@ fn loudest(samples: &[f32], each: usize) -> u32 {
 }
 
 // The tape as far as it is told: the engine, the clips that are held, the accepted pushes, the quiet calls that are not told yet, and the last call's refusal.
-#[derive(Drop)]
+#[derive(Clone, Copy)]
 struct Told {
     sequencer: Sequencer,
     count: usize,

@@ -1,6 +1,6 @@
 // What was heard so far, what ended it, and the words for it.
 
-#[derive(Drop)]
+#[derive(Clone, Copy)]
 pub(crate) enum Ending {
     No,
     Tape,
@@ -13,7 +13,7 @@ pub(crate) enum Ending {
 }
 
 // The frames written and their rate, the greatest magnitude among them, and what ends the WAV.
-#[derive(Drop)]
+#[derive(Clone, Copy)]
 pub(crate) struct Heard {
     pub(crate) frames: u32,
     pub(crate) rate: u32,
