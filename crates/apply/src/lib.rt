@@ -1,4 +1,6 @@
 // A record's call carried out on the engine: state in, state out.
+#![tactic(auto)]
+
 ghost use Rattle.std.specs.Prelude.{◌≡◌, replicate};
 ghost use Rattle.floats.specs.Arithmetic.{zeroᶠ};
 ghost use Rattle.event.specs.declared.ReplayMode.TheVariants.{All};

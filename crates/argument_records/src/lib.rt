@@ -1,5 +1,7 @@
 // A record's arguments (crate tape_writer) as 120 bytes, by which a program that reads or writes text hands them on: kind, channels, mode and number, the times start, end, fade-in and fade-out, curve and source (8 each),
 // value, step, offset, length, gain and a 0 (4 each), size and rate (8 each); little-endian, floats as bits.
+#![tactic(auto)]
+
 ghost use Rattle.std.specs.Prelude.{◌≡◌, replicate};
 ghost use Rattle.argument_records.specs.Records.{arguments_of, record_bytes, record_widths, record_numbers};
 

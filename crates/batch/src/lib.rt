@@ -1,4 +1,6 @@
 // Document 02, Paper 1: a run of push records carried out in one call, as the pushes one after another, on the engine that four lent arrays hold.
+#![tactic(auto)]
+
 ghost use Rattle.std.specs.Prelude.{◌≡◌, ◌+◌, ◌≤◌, ◌<◌, length};
 ghost use Rattle.memory.specs.Memory.{before, after, engine_of};
 ghost use Rattle.claim.specs.EngineCalls.{engine_call};

@@ -1,5 +1,7 @@
 // Plays the first 65,536 bytes of a script from standard input: a tape on which 00 makes a new engine wherever it stands, and kind 20 is a run of push records (crate batch): their count, the length of the lent slice, at most 64, and two bytes with
 // the length of the run, which follows. Such a run lists how many were pushed and what ended it, the numbers behind it, 1,000,000 + i where place i was left, and the engine (crate state_listing). A failed read counts as the script's end.
+#![tactic(auto)]
+
 ghost use Rattle.std.specs.Prelude.{◌≤◌, length};
 
 use event::ReplayMode;

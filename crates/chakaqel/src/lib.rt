@@ -2,6 +2,8 @@
 // Modes, curves, sources and marks cross as the numbers of document 01's tape (a mark: 0 none, 1 set); a number that names none is
 // refused with the tape's 14, before anything else is looked at. Every contract gives the result and all that is lent at exit, for
 // any memory at entry; a refused call leaves every cell of it as it was, but for refusal 1 of a creation.
+#![tactic(auto)]
+
 mod creation;
 mod edits;
 mod numbers;

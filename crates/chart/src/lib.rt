@@ -1,4 +1,6 @@
 // The whole numbers of a page about a tape: times in microseconds, columns, rows, and heights of peaks.
+#![tactic(auto)]
+
 ghost use Rattle.std.specs.Prelude.{◌≡◌, ◌≤◌, min, get_or};
 ghost use Rattle.chart.specs.Scale.{micros_of, thousandths_of, later_by, between_at, column_of, x_of, breadth_of, lane_of, lanes_end, wave_of, scaled_of, height_of, steps, step_of};
 

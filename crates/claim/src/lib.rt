@@ -1,4 +1,6 @@
 // Demand 3 stands in specs/: it is no code. This function brings the declared types into the crate.
+#![tactic(auto)]
+
 ghost use Rattle.std.specs.Prelude.{◌≡◌};
 
 use event::{Event, ReplayMode, StoredEdit};

@@ -1,5 +1,7 @@
 // Plays a desk script of at most 65,536 bytes from standard input (oracle/README.md: a tape whose kinds 01 to 05 and 0A to 0C are calls of the front and 06 to 09 of the back, with 10 for the front's reset, 11 to 13 for what is lent, and 15 and 16 for marked calls).
 // Each record prints its lines as on a tape, then its answer and the whole state of the back and the queues (crate state_listing).
+#![tactic(auto)]
+
 mod lines;
 
 ghost use Rattle.std.specs.Prelude.{◌≤◌};

@@ -1,4 +1,6 @@
 // A digest of numbers: each goes into one number of 64 bits, so that a list that differs in one place has another digest.
+#![tactic(auto)]
+
 ghost use Rattle.std.specs.Prelude.{◌≡◌};
 ghost use Rattle.digests.specs.Digests.{mixed as mixedBy, mixed_all};
 

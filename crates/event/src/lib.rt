@@ -1,4 +1,6 @@
 // Sources, fades and events: the data of src/sequencer.rs of fundsp. A source stands for its `Box<dyn AudioUnit>`.
+#![tactic(auto)]
+
 ghost use Rattle.std.specs.Prelude.{◌≡◌};
 ghost use Rattle.event.specs.Events.{new_event, edited_by, rewound, earlier};
 ghost use Rattle.event.specs.Fades.{curve};

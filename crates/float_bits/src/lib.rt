@@ -1,4 +1,6 @@
 // Floats and their bit patterns. Every pattern of a NaN is the NaN, and the NaN's pattern is 7FC00000 or 7FF8000000000000.
+#![tactic(auto)]
+
 ghost use Rattle.std.specs.Prelude.{◌≡◌};
 ghost use Rattle.std.specs.Float.{binary32, binary64};
 ghost use Rattle.std.specs.Float.Ieee.{of_bits, to_bits};

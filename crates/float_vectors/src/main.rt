@@ -1,5 +1,7 @@
 // Runs float vectors from standard input: a line each, of a letter and three patterns of 16 hexadecimal digits, and writes the result's pattern in 16 digits.
 // n: narrow. i: sample_index, and w: how it came (0 Free, 1 Raised, 2 Cut). t: total_cmp (0 Less, 1 Equal, 2 Greater). s: smooth5. p: sine_ease. d: delerp.
+#![tactic(auto)]
+
 ghost use Rattle.std.specs.Prelude.{◌≡◌, ◌<◌, length};
 
 use floats::{Clamp, Order};

@@ -1,5 +1,7 @@
 // Document 02, Paper 13: `heap_worst_case N` writes to standard output the tape of N pushes, N from 1 to 256, that moves most events inside the waiting heap (crate rises). To standard error it writes
 // two figures: what the rises of N pushes add up to at most, and what those of the tape's pushes do. Anything but such an N is refused: `23` is then all that is written, to standard error.
+#![tactic(auto)]
+
 use rises::{Laid, Total};
 
 // N, or 0 where the words are not one that writes it.

@@ -1,4 +1,6 @@
 // Document 01's plain ledger stands in specs/: it is no code. This function brings the declared types of events into the crate.
+#![tactic(auto)]
+
 ghost use Rattle.std.specs.Prelude.{◌≡◌};
 
 use event::{Event, Placing, Placings, ReplayMode, StoredEdit};

@@ -1,4 +1,6 @@
 // Random lists of calls run on the plain ledger's definitions (specs/), with the Rust's answers: no code. This function brings the declared types of events into the crate.
+#![tactic(auto)]
+
 ghost use Rattle.std.specs.Prelude.{◌≡◌};
 
 use event::{Event, ReplayMode, StoredEdit};

@@ -1,4 +1,6 @@
 // Random pushes and pops, places and edits through `ready` and `lists`, feeds through `peak`, and windows through `lodge`. The file `stdout` was made by the Rust's BinaryHeap and HashMap, and by plain references: see oracle/src/bin/listvectors.rs.
+#![tactic(auto)]
+
 mod hours;
 mod peaks;
 

@@ -1,4 +1,6 @@
 // The listing's lines, put at the front of a lent buffer. A buffer too short for the line stays as it is, and the answer is 0.
+#![tactic(auto)]
+
 pub mod pieces;
 
 ghost use Rattle.std.specs.Prelude.{◌≡◌, [], ◌∷◌, ◌++◌, cond, ◌+◌, ◌*◌, ◌≤◌, ◌<◌, eqb, length};

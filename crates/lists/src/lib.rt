@@ -1,6 +1,8 @@
 // The index of the sounding list and the stored edits: `active_map` and `edit_map` of src/sequencer.rs. The Rust's hash maps are arrays with a count, searched by number.
 // The engine keeps the sounding and the finished list flat in its own struct; what they hold is said in specs/Holds.antt and specs/Sounding.antt.
 // A count above 256 is corrupt: then nothing is found and nothing changes.
+#![tactic(auto)]
+
 ghost use Rattle.std.specs.Prelude.{◌≡◌};
 ghost use Rattle.lists.specs.Index.{found_id};
 ghost use Rattle.lists.specs.Edits.{emptied, placed, found_edit, stored, removed};

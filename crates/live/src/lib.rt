@@ -3,6 +3,8 @@
 // Each call changes the four arrays in place and copies none of them. The engine that they hold at exit (`engine_of`) is that of crate
 // `sequencer`'s call of the same name on the one that they held at entry, and so is the answer. A refused call leaves every cell as it
 // was; a refused creation leaves document 01's empty engine of one channel.
+#![tactic(auto)]
+
 mod creation;
 mod edits;
 mod pushes;

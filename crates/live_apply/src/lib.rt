@@ -1,4 +1,6 @@
 // A record's call carried out on the engine that four lent arrays hold (crate `live`): what crate `apply` is for the plain engine.
+#![tactic(auto)]
+
 ghost use Rattle.std.specs.Prelude.{◌≡◌};
 ghost use Rattle.ledger.specs.Calls.{absolute, relative, by_duration, absolute_end, relative_end};
 ghost use Rattle.sequencer.specs.Edits.{edits};

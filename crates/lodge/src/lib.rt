@@ -1,5 +1,7 @@
 // Document 02, Paper 11: the earliest minute, not before a given one, at which a length fits in one opening window of a lodge.
 // Minutes count from a Monday 00:00, and every week of 10,080 has the same windows.
+#![tactic(auto)]
+
 ghost use Rattle.std.specs.Prelude.{◌≡◌, ◌≤◌, max};
 ghost use Rattle.lodge.specs.Hours.{in_use};
 ghost use Rattle.lodge.specs.Search.{orderly, first_from, answered};

@@ -1,4 +1,6 @@
 // The fade curves and the inverse of linear interpolation: src/math.rs of fundsp, at the types that the sequencer uses.
+#![tactic(auto)]
+
 ghost use Rattle.std.specs.Prelude.{◌≡◌};
 ghost use Rattle.math.specs.Curves.{smooth, sine_ease, delerped};
 

@@ -17,6 +17,8 @@
 //                       EDIT_NUMBERS 1024 ..  the number of each stored edit
 //                       WAITING 1280, SOUNDING 1281, FINISHED 1282, EDITS 1283   how many wait, sound, are finished, and are stored edits
 //                       CHANNELS 1284, MODE 1285 (0: All), NEXT 1286 (the next event number), LET_GO 1287 (how many events were let go)
+#![tactic(auto)]
+
 mod lengths;
 mod slots;
 

@@ -1,4 +1,6 @@
 // What one event adds to a tick and to a block: `tick`, `process`, `fade_in` and `fade_out` of src/sequencer.rs of fundsp.
+#![tactic(auto)]
+
 ghost use Rattle.std.specs.Prelude.{◌≡◌, ◌-◌, ◌≤◌, false, not, ◌&&◌, ◌||◌, length, nat_le};
 ghost use Rattle.floats.specs.Arithmetic.{◌<ᶠ◌, ◌≤ᶠ◌};
 ghost use Rattle.event.specs.PlacingCounts.{add_all};

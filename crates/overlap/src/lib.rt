@@ -1,5 +1,7 @@
 // Document 02, Paper 4: the clips of a stretch of time, and the first waiting event from a given time on. Both only read the engine that four lent arrays
 // hold (crate `memory`), and answer a few words.
+#![tactic(auto)]
+
 ghost use Rattle.std.specs.Prelude.{◌≡◌, map, ◌+◌, ◌*◌, ◌<◌, min, length, get_or};
 ghost use Rattle.floats.specs.Floats.{sooner};
 ghost use Rattle.event.specs.Blank.{blank};

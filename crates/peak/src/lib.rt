@@ -2,6 +2,8 @@
 // Its history is kept in a lent row of at least `window` words (4,096 always serve), which nobody else writes between two calls.
 // What the row held before the first feed is never read.
 // A call copies four words. A sample costs a store and a comparison, and each `window` samples one pass over `window` words: a constant cost on average.
+#![tactic(auto)]
+
 ghost use Rattle.std.specs.Prelude.{◌≡◌, true, map, ◌≤◌, max, length};
 ghost use Rattle.peak.specs.Peaks.{magnitude};
 ghost use Rattle.peak.specs.Steps.{state, empty, suffix_maxima_to, created, serves, refusal, advanced, fed, fed_all, older, reading};

@@ -1,4 +1,6 @@
 // The plain engine that four lent arrays hold (crate `memory`), read out of them: for listings, which take an engine by value.
+#![tactic(auto)]
+
 ghost use Rattle.std.specs.Prelude.{◌≡◌, ◌+◌, ◌≤◌, ◌<◌, eqb};
 ghost use Rattle.memory.specs.Rows.{rows};
 ghost use Rattle.memory.specs.Memory.{before, event_at, id_at, edit_at, mode_if, engine_of};

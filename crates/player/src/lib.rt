@@ -1,4 +1,6 @@
 // A tape's records on the engine that four lent arrays hold (crate `live`), one call a record.
+#![tactic(auto)]
+
 ghost use Rattle.std.specs.Prelude.{◌≡◌, ◌++◌, length, drop, replicate};
 ghost use Rattle.floats.specs.Arithmetic.{zeroᶠ};
 ghost use Rattle.apply.specs.Applying.{applied_to, applied_out};

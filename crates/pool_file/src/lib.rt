@@ -1,6 +1,8 @@
 // The pool that clips read: document 01's, or from a file, a WAV of one channel of 32-bit floats, or such samples and nothing else. For programs: which bytes a call of C's reads no contract can say, so
 // `load` promises how many samples there are and where they stand in the pool (`Loads`). Where they stand in the file and what ends them is decided by the functions above it, by the definitions of
 // specs/Pools.antt.
+#![tactic(auto)]
+
 ghost use Rattle.std.specs.Prelude.{◌≡◌, ◌-◌, ◌≤◌, length, take, drop, replicate, ◌++◌};
 ghost use Rattle.std.proofs.lemmas.List.Edits.{sets};
 ghost use Rattle.floats.specs.Arithmetic.{zeroᶠ};

@@ -1,4 +1,6 @@
 // The layout preview's house fade, 1,024 samples, smooth, from a printed table.
+#![tactic(auto)]
+
 mod entries;
 
 ghost use Rattle.std.specs.Prelude.{◌≡◌};

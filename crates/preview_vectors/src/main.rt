@@ -1,5 +1,7 @@
 // Previews of standard input, 262 bytes each: first entry (4), 0 falling or 1 rising, count of samples up to 64, and 64 samples (4 each), little-endian. Each prints the answer and the bits of its samples.
 // The file `stdout` was made by the Rust: see oracle/src/bin/previewvectors.rs.
+#![tactic(auto)]
+
 ghost use Rattle.std.specs.Prelude.{◌≤◌, length};
 
 fn word(a: u8, b: u8, c: u8, d: u8) -> u32 {

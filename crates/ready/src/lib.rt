@@ -1,5 +1,7 @@
 // The waiting heap, `ready: BinaryHeap<Event>` of src/sequencer.rs: the event that starts first stands at place 0, and of equal starts that of the lower number.
 // `Event::precedes` is the only comparison. A count above 256 is corrupt: push and pop then change nothing.
+#![tactic(auto)]
+
 ghost use Rattle.std.specs.Prelude.{◌≡◌};
 ghost use Rattle.ready.specs.Waiting.{emptied, peeked, pushed, popped, risen_by};
 

@@ -1,5 +1,7 @@
 // The desk: `SequencerBackend` of src/realseq.rs of fundsp with its front, state in, state out. Two queues by value stand for the Rust's channels.
 // The front queues messages; the back handles them before each of its calls. In mode None the back returns the numbers of the events that it lets go.
+#![tactic(auto)]
+
 mod back;
 mod front;
 mod handling;

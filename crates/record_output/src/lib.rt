@@ -1,5 +1,7 @@
 // What a record leaves in the output, put from a place of a lent slice on: its samples as bytes, or its lines of document 01's listing.
 // A piece that has no room is left out. Where there is room for a whole record, all of it stands there.
+#![tactic(auto)]
+
 ghost use Rattle.std.specs.Prelude.{◌≡◌, [], ◌-◌, ◌≤◌, ltb, length, replicate};
 ghost use Rattle.listing.specs.Pieces.{text, add, add_all};
 ghost use Rattle.listing.specs.Text.{samples_line};

@@ -1,4 +1,6 @@
 // The refusals of documents 01 and 02 in words: one table for every page.
+#![tactic(auto)]
+
 ghost use Rattle.std.specs.Prelude.{◌≡◌};
 ghost use Rattle.listing.specs.Pieces.{text, add};
 ghost use Rattle.refusal_texts.specs.Texts.{text_of};

@@ -1,4 +1,6 @@
 // The refusals of documents 01 and 02 that are the engine's, in their order: a number, or 0 where none applies. They take no engine, so that the desk and the tape can ask them too.
+#![tactic(auto)]
+
 ghost use Rattle.std.specs.Prelude.{◌≡◌, ◌+◌, min, ◌&&◌};
 ghost use Rattle.std.specs.Float.Ieee.Scale.{finite as is_finite};
 ghost use Rattle.ledger.specs.Refusals as Limits;

@@ -1,4 +1,6 @@
 // The C entries: a tape's samples as bytes, and what they come to. The records are played by crate player and counted by crate tape_extent.
+#![tactic(auto)]
+
 ghost use Rattle.std.specs.Prelude.{◌≡◌, List, ◌++◌, Float, length, drop};
 ghost use Rattle.render.specs.Rendering.{rendered_with, rendered};
 ghost use Rattle.tape_extent.specs.Extents.{told, extent_of};

@@ -1,5 +1,7 @@
 // Document 02, Paper 13: the arrangement of n pushes that moves most events inside the waiting heap, as an argument's word, a tape and two figures.
 // An n that is not from 1 to 256 is refused as 23.
+#![tactic(auto)]
+
 ghost use Rattle.std.specs.Prelude.{◌≡◌, ◌≤◌};
 ghost use Rattle.rises.specs.Way.{floor_log2};
 ghost use Rattle.ledger.specs.Calls.{absolute};

@@ -1,5 +1,7 @@
 // Loops over samples: what a source gives, gains, fades, and adding. The fades and the adding are those of `fade_in`, `fade_out` and
 // `process` of src/sequencer.rs of fundsp. A slice may have any length; places that it lacks are left out.
+#![tactic(auto)]
+
 ghost use Rattle.std.specs.Prelude.{◌≡◌, ◌+◌, ◌-◌, ◌/◌, ◌≤◌, min, map, ◌++◌, length, take, drop, replicate};
 ghost use Rattle.std.proofs.Math.ListN as List;
 ghost use Rattle.event.specs.Sources.{steps, next_samples, advanced_by};

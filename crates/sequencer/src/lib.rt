@@ -7,6 +7,8 @@
 // one joins both. The unchecked ones (`push_event`, `push_relative_event`, `change`, `change_rate`, `render_tick`, `render_block`, `release_past`) are
 // public for the desk, crate realseq, alone.
 // A count above 256 is corrupt: no call reads or writes past an array, and what it does then is what its definition says.
+#![tactic(auto)]
+
 mod creation;
 mod edits;
 mod moves;

@@ -1,1 +1,2 @@
 // Document 01's proof sheet: specs/Sheet.antt.
+#![tactic(auto)]

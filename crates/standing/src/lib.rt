@@ -1,4 +1,6 @@
 // Where a clip stands, by its number, and what becomes of an edit: what a tape's sheet and story draw and tell. Both functions only read the engine.
+#![tactic(auto)]
+
 ghost use Rattle.std.specs.Prelude.{◌≡◌, take};
 ghost use Rattle.event.specs.Events.{number_of};
 ghost use Rattle.ledger.specs.Lists.{has as hasNumber};

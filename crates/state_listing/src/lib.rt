@@ -1,6 +1,8 @@
 // A line with a record's kind, its answer, and every part of the engine's state under its name: lists as counts with digests, floats as bits. A desk adds its two queues.
 // The comparison with the Rust holds these lines against those of the original's own fields (oracle/src/digest.rs). The waiting events and the stored edits are listed as sets.
 // A line is put at the front of a lent buffer, part by part; a part that has no room is left out. 1,024 bytes have room for every line.
+#![tactic(auto)]
+
 mod digest;
 
 ghost use Rattle.std.specs.Prelude.{◌≡◌};

@@ -1,4 +1,6 @@
 // Plays the first 65,536 bytes of a tape from standard input and lists, for each record, its answer and the whole state behind it (crate state_listing). A failed read counts as the tape's end.
+#![tactic(auto)]
+
 use apply::Applied;
 use event::MixOrder;
 use runs::least;

@@ -1,4 +1,6 @@
 // What a tape comes to, read from its clock alone: no push or edit moves the clock, and only the clock, the rate and the channels say which ticks and blocks are accepted.
+#![tactic(auto)]
+
 ghost use Rattle.std.specs.Prelude.{◌≡◌, ◌+◌, ◌*◌, List, Float};
 ghost use Rattle.tape_extent.specs.Extents.{capped, rate_with, one_rate_with, longer, counts64, ended_by, end_of, extent_of};
 ghost use Rattle.tape_extent.specs.Paces.{fresh_pace, at, soundless, rendering, creates, creating, paced};

@@ -1,4 +1,6 @@
 // A tape read in pieces through a buffer: for programs that read a tape of any length. Which bytes C's read gives no contract can say; what else reading leaves, specs/Reading.antt does.
+#![tactic(auto)]
+
 ghost use Rattle.std.specs.Prelude.{◌≡◌, cond, false, ◌++◌, ◌+◌, ◌-◌, ◌≤◌, min, ltb, leb, length, take, drop};
 ghost use Rattle.tape_input.specs.Reading.{ReadOn, NextTape};
 

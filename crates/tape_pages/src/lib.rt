@@ -1,5 +1,7 @@
 // What the programs share that make a page of a tape (trail_sheet, trail_story): their arguments, the pool, and the tape's records by their places in the file. For programs: which bytes a
 // call of C's reads no contract can say. What is decided of them, and what is left, is said by the definitions of specs/.
+#![tactic(auto)]
+
 ghost use Rattle.std.specs.Prelude.{◌≡◌, ◌&&◌, ◌≤◌, max, length};
 ghost use Rattle.pool_file.specs.Loading.{Loads};
 ghost use Rattle.tape_pages.specs.Arguments.{places_of};

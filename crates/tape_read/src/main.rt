@@ -1,5 +1,7 @@
 // `tape_read < TAPE > ARGUMENTS`: standard input has a tape of any length, and standard output gets its records' arguments, 120 bytes each (crate argument_records). tape_text makes a text of them.
 // A record that would not be written with its own bytes (a held source's unused word that is not 0, another NaN), and what is no record, is given as it is: a kind of 256 + n, and then n bytes, up to 112. What goes wrong is said on standard error.
+#![tactic(auto)]
+
 ghost use Rattle.std.specs.Prelude.{◌+◌, ◌≤◌, length};
 
 use tape::reader::{Cursor, Read};

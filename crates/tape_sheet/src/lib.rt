@@ -1,4 +1,6 @@
 // A tape as one SVG page: a lane for each clip, marks for edits and refused calls, the wave of each channel, and the sum. Each function puts an element, piece by piece, into a lent buffer (crate tape_words); where it stands is crate chart.
+#![tactic(auto)]
+
 ghost use Rattle.std.specs.Prelude.{◌≡◌, ◌-◌, ◌≤◌};
 ghost use Rattle.listing.specs.Pieces.{text, add, add_all};
 ghost use Rattle.tape_words.specs.Words.{by_place};

@@ -1,4 +1,6 @@
 // A tape in lines: the clock in milliseconds, the call, the clip's number, and what became of it. Each function puts a part of a line, piece by piece, into a lent buffer (crate tape_words).
+#![tactic(auto)]
+
 ghost use Rattle.std.specs.Prelude.{◌≡◌};
 ghost use Rattle.listing.specs.Pieces.{text, add, add_all};
 ghost use Rattle.tape_story.specs.Lines.{move_text, laid_text, mode_text, created_text, edited_text, rate_text, outcome_text, quiet_text, refused_text, begin_text, samples_text, heard_text, stop_text, end_text};

@@ -1,4 +1,6 @@
 // What the pages about a tape follow: where each clip stands that is held, in rows of numbers, and what a record says of one.
+#![tactic(auto)]
+
 ghost use Rattle.std.specs.Prelude.{◌≡◌, cond, length, set as set_at, replicate, slice_index};
 ghost use Rattle.tape_tracks.specs.Tracks.{stands_at, entered_at, same_counts, next_place, one_more, edited_number, edit_answer_of};
 

@@ -1,4 +1,6 @@
 // The tapes of standard input, each behind its length in two little-endian bytes: those of oracle/traps, then a long random one. For each a line says how many records were read or refused, the digest of their answers, counts and samples, how many bytes `render` writes into 65,536, and these bytes' digest. The file `stdout` was made by the Rust: see oracle/src/bin/tapevectors.rs.
+#![tactic(auto)]
+
 use digests::{mixed, mixed_bytes};
 use sequencer::Counts;
 use tape::reader::{Cursor, Read};

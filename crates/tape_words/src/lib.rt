@@ -1,4 +1,6 @@
 // Words of the pages about a tape, put piece by piece into a lent buffer (listing, pieces): each function answers the next free place, and a piece that has no room is left out.
+#![tactic(auto)]
+
 ghost use Rattle.std.specs.Prelude.{◌≡◌, cond, [], ◌∷◌, ◌+◌, eqb};
 ghost use Rattle.listing.specs.Pieces.{text, add, add_all};
 ghost use Rattle.listing.specs.Text.{decimal};

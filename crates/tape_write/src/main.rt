@@ -1,5 +1,7 @@
 // `tape_write < ARGUMENTS > TAPE`: standard input has records' arguments, 120 bytes each (crate argument_records), and standard output gets the records (crate tape_writer).
 // A kind of 256 + n stands for n bytes as they are, up to 112, which follow in its place. tape_text makes the arguments from a text. What goes wrong is said on standard error.
+#![tactic(auto)]
+
 ghost use Rattle.std.specs.Prelude.{◌+◌, ◌≤◌, length};
 
 use tape_writer::Written;

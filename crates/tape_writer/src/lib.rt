@@ -1,4 +1,6 @@
 // Document 02, Paper 6: puts down a record of a tape in a lent buffer.
+#![tactic(auto)]
+
 pub mod calls;
 
 ghost use Rattle.std.specs.Prelude.{◌≡◌, cond, ◌<◌};

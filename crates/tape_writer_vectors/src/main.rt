@@ -2,6 +2,8 @@
 // A request is a record's arguments, the free place and the buffer's length (crate argument_records; see `write_one`): its line has the next free place or the refusal, and the whole buffer, which held EE.
 // Each record of a tape is read and written again at its own place: the tape's line says where that ended, and has the digest of what was written.
 // The file `stdout` was made by the Rust: see oracle/src/bin/writervectors.rs.
+#![tactic(auto)]
+
 ghost use Rattle.std.specs.Prelude.{◌≤◌};
 
 use digests::mixed_bytes;

@@ -1,5 +1,7 @@
 // Reads a tape of any length from standard input and lists it, in pieces of 64 KB each way. `trail --pool FILE` has the file's samples as the pool that clips read.
 // A failed read counts as the tape's end; a failed write ends the listing. Both are said on standard error.
+#![tactic(auto)]
+
 ghost use Rattle.std.specs.Prelude.{◌≡◌, ◌≤◌, length};
 
 mod say;

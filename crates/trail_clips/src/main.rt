@@ -2,6 +2,8 @@
 // the first waiting event from FROM on (crate overlap).
 // FROM and TO are milliseconds: up to 15 decimal digits or `inf`, with a minus sign or none. Anything else counts as a NaN, which is 17. A failed read counts as the tape's end.
 // LENGTH, up to 512, is how many numbers the lent slice has, in place of 256. Where it is given, the last line counts the slice's places that the call left.
+#![tactic(auto)]
+
 ghost use Rattle.std.specs.Prelude.{◌≤◌, length};
 
 use event::EventId;

@@ -1,5 +1,7 @@
 // Document 02, Paper 13: `trail_rises < TAPE` plays the first 65,536 bytes of a tape on the engine. For each push it prints how many levels the event rose
 // in the waiting heap, and for each tick and block the numbers that sound after it, in the list's order. A failed read counts as the tape's end.
+#![tactic(auto)]
+
 use event::EventId;
 use live::Pushed;
 use memory::{ACTIVE, Levels, Marks, Numbers, ROOM, SOUNDING, Times, event_at};

@@ -1,6 +1,8 @@
 // `trail_sheet TAPE > page.svg`: a tape as a page to look at: a lane for each clip, marks for edits and refused calls, the wave of each channel, and the sum. The tape is played twice: once for the page's
 // measures, once to draw. Of what is written no contract speaks, since the kit's io has no model of standard output: the elements are crate tape_sheet, where they stand is crate chart, where a clip
 // stands is crate tape_tracks, and the calls are the engine's.
+#![tactic(auto)]
+
 mod page;
 mod waves;
 

@@ -1,5 +1,7 @@
 // `trail_story TAPE`: a tape in lines to read. Ticks and blocks in which nothing starts or finishes are gathered in one line. Of what is written no contract speaks, since the kit's io has no model of
 // standard output: the lines are crate tape_story, where a clip stands is crate tape_tracks, and the calls are the engine's.
+#![tactic(auto)]
+
 use sequencer::{Answer, Sequencer};
 use tape::reader::{Call, Read};
 use tape_pages::{both, larger};

@@ -1,5 +1,7 @@
 // `trail_wav TAPE OUT.wav [POOL]` plays a tape of any length into a WAV of 32-bit float samples, in pieces of 64 KB, and says at the end what it wrote and what ended the tape.
 // The header is put in its place at the end, when the count of frames is known. A WAV has one rate: samples at another one, or at a rate that is no whole number, end it.
+#![tactic(auto)]
+
 mod say;
 
 use say::{Ending, Heard};

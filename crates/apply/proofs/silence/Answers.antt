@@ -1,0 +1,8 @@
+-- `apply::silence` meets its contract. Assumes nothing.
+use mathlib.Core.Path.{refl}
+use lib.Ieee.{of_bits}
+use Rattle.apply.proofs.silence.Goals as goal
+
+pub returns : goal.returns
+unfolding of_bits
+returns c = refl

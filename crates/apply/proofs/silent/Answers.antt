@@ -1,0 +1,6 @@
+-- `apply::silent` meets its contract. Assumes nothing.
+use borrow.Author.Rules.{rules}
+use Rattle.apply.proofs.silent.Goals as goal
+
+pub returns : goal.returns
+returns c = simp c.refusal-n.ensures

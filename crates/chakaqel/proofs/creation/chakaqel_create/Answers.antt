@@ -1,0 +1,21 @@
+-- `chakaqel::creation::chakaqel_create` meets its contract.
+use mathlib.Core.Path.{refl, ap, ◌∙◌}
+use borrow.Author.Tests.{lt-ltb, le-ltb}
+use Rattle.event.specs.declared.ReplayMode.{ReplayMode}
+use Rattle.sequencer.specs.Creation.{created}
+use Rattle.chakaqel.specs.Entries.{code_of}
+use borrow.Author.Rules.{rules}
+use Rattle.chakaqel.proofs.creation.chakaqel_create.Goals as goal
+
+pub returns-then-mode-gt1 : goal.returns-then-mode-gt1
+returns-then-mode-gt1 c = rw (lt-ltb _ _ c.if-mode-gt1.true) (refl, (refl, λ h. refl))
+
+pub returns : goal.returns
+returns c =
+    let a = c.args in
+    let m = c.Mode-of.ensures in
+    let e = c.create-answer.ensures in
+    rw (le-ltb _ _ c.if-mode-gt1.false) (
+      e.0 ∙ ap (λ (x : ReplayMode). (created a.channels x a.first).sequencer) m,
+      (c.code_of_lem.ensures ∙ ap code_of (e.1 ∙ ap (λ (x : ReplayMode). (created a.channels x a.first).answer) m), λ h. absurd h),
+    )

@@ -1,0 +1,21 @@
+-- `chakaqel::pushes::chakaqel_push_duration` meets its contract.
+use mathlib.Core.Path.{refl, sym, ◌∙◌}
+use Rattle.ledger.specs.Calls.{by_duration}
+use Rattle.memory.specs.Memory.{cells_of, source_in}
+use Rattle.chakaqel.specs.Entries.{curve_of, unknown_voice}
+use Rattle.chakaqel.proofs.Codes.{pushed-entry}
+use borrow.Author.Rules.{rules}
+use Rattle.chakaqel.proofs.pushes.chakaqel_push_duration.Goals as goal
+
+pub returns-then-unknown_voice : goal.returns-then-unknown_voice
+returns-then-unknown_voice c = rw (sym c.unknown_voice.ensures ∙ c.if-unknown_voice.true) (refl, (refl, (refl, λ h. refl)))
+
+pub returns : goal.returns
+returns c =
+    let a = c.args in
+    let known = sym c.unknown_voice.ensures ∙ c.if-unknown_voice.false in
+    let curve = c.curve_of.ensures in
+    let source = c.source_of.ensures in
+    pushed-entry by_duration (cells_of a.times.now a.levels.now a.marks.now a.numbers.now) _ (unknown_voice a.curve a.source) known
+    (curve_of a.curve) _ curve (source_in a.source a.a a.b a.offset a.length) _ source
+    a.start-time a.duration a.fade_in a.fade_out a.gain _ _ c.push_duration-pushed.ensures _ a.told.now _ c.tell_push.ensures

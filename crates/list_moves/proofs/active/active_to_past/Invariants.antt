@@ -1,0 +1,15 @@
+-- `list_moves::active::active_to_past` meets its contract.
+use Rattle.std.proofs.Common.{◌≡◌, ◌-◌, ◌≤◌, sym, refl, ◌∙◌, arith, rules}
+use Rattle.sequencer.specs.Moves.{active_to_past}
+use Rattle.sequencer.specs.Turns.{Finishing, finished_end}
+use Rattle.memory.specs.Memory.{cells_of, engine_of}
+use Rattle.memory.specs.Laws.{counts_are}
+use Rattle.list_moves.proofs.Sweeping.{sweep-starts, sweeps_on, sweeps_off, sweep-beyond, kept_len}
+use Rattle.list_moves.proofs.active.active_to_past.Given as goal
+
+abbrev pub invariant-loop-i : goal.invariant-loop-i
+invariant-loop-i l = (l.n ≤ 256) × (l.n ≡ (engine_of (cells_of l.times l.levels l.marks l.numbers)).active_len)
+    × Finishing l.limit (engine_of (cells_of l.times l.levels l.marks l.numbers)) l.i (active_to_past (engine_of (cells_of l.initial.l.times l.initial.l.levels l.initial.l.marks l.initial.l.numbers)) l.limit)
+
+abbrev pub decreases-loop-i : goal.decreases-loop-i
+decreases-loop-i l = l.n - l.i

@@ -1,0 +1,61 @@
+-- `little_endian::put_samples` meets its contract: the samples are put piece by piece, or have no room. Assumes nothing.
+use borrow.Author.Rules.{rules}
+use mathlib.Core.Path.{◌≡◌, refl, sym, ap, ◌∙◌}
+use mathlib.Core.List.{◌++◌}
+use Prim.Native.Nat.{ℕ, ◌+◌, ◌-◌, ◌*◌, ◌≤◌}
+use native.Mathlib.Omega.{arith}
+use lib.ListN.{length, drop}
+use Rattle.listing.specs.Putting.{Pieces, first_piece, piece_fits, next_piece, last_piece, same-long}
+use Rattle.little_endian.specs.LowBytes.{little_endian, length_little}
+use Rattle.little_endian.specs.Samples.{bytes_of, length_bytes, bytes_step}
+use Rattle.little_endian.proofs.Steps.{no_place, placed}
+use Rattle.little_endian.proofs.put_samples.Goals as goal
+use Rattle.little_endian.proofs.put_samples.Goals.{After-f32_to_bits-bits}
+
+-- the next sample's bytes
+next : (c : After-f32_to_bits-bits invariant-loop decreases-loop)
+    → let l = c.before.before.before in let xs = l.args.samples.now in let i = l.loop-i.i in bytes_of (drop i xs) ≡ little_endian 4 c.f32_to_bits-bits.result ++ bytes_of (drop (i + 1) xs)
+next c =
+    let l = c.before.before.before in
+    let xs = l.args.samples.now in
+    let i = l.loop-i.i in
+    bytes_step xs i c.loop-i-test.true ∙ ap (λ (k : ℕ). little_endian 4 k ++ bytes_of (drop (i + 1) xs)) (sym c.f32_to_bits-bits.ensures)
+
+fits_next : (c : After-f32_to_bits-bits invariant-loop decreases-loop) → c.loop-i.to + 4 ≤ length c.loop-i.out
+fits_next c =
+    let f = piece_fits bytes_of _ _ _ c.loop-i.invariant (little_endian 4 c.f32_to_bits-bits.result) (next c) in
+    omega (arith, length_little 4 c.f32_to_bits-bits.result)
+
+pub returns-then-out-at : goal.returns-then-out-at
+returns-then-out-at c = let l = length_bytes c.args.samples.now in no_place _ _ _ (omega arith)
+
+pub returns-then-out-at-2 : goal.returns-then-out-at-2
+returns-then-out-at-2 c = let l = length_bytes c.args.samples.now in no_place _ _ _ (omega (arith, c.if-out-at.false))
+
+pub loop-i-init : goal.loop-i-init
+loop-i-init c = first_piece bytes_of _ _ _ (omega (arith, c.if-out-at.false, c.if-out-at-2.false, length_bytes c.args.samples.now))
+
+pub put_word-requires : goal.put_word-requires
+put_word-requires c = fits_next c.before
+
+pub overflow_add-to : goal.overflow_add-to
+overflow_add-to c =
+    let l = fits_next c.before.before.before.before in
+    let s = same-long c.loop-i.invariant.put in
+    search rules
+
+pub loop-i-preserved : goal.loop-i-preserved
+loop-i-preserved c =
+    let d = c.before.before.before.before in
+    let n = length_little 4 d.f32_to_bits-bits.result in
+    next_piece bytes_of _ _ _ d.loop-i.invariant d.loop-i-test.true (little_endian 4 d.f32_to_bits-bits.result) (next d) _ c.put_word.ensures _ (omega arith)
+
+pub shape_of-out : goal.shape_of-out
+shape_of-out c = same-long c.loop-i.invariant.put
+
+pub returns : goal.returns
+unfolding bytes_of
+returns c =
+    let i = c.loop-i.invariant in
+    let p = last_piece bytes_of _ _ _ i c.loop-i-test.false refl in
+    placed _ _ _ i.room _ _ p.0 p.1

@@ -1,0 +1,13 @@
+-- `live::edits::edit` meets its contract.
+use Rattle.std.proofs.Common.{refl, rules}
+use Rattle.ledger.specs.Calls.{absolute_end}
+use Rattle.ledger.specs.Refusals.{edit_end}
+use Rattle.memory.specs.Memory.{cells_of}
+use Rattle.live.proofs.Told.{tells-edit}
+use Rattle.live.proofs.edits.edit.Goals as goal
+
+pub returns : goal.returns
+unfolding edit_end
+returns c =
+    let a = c.args in
+    tells-edit (cells_of a.times.now a.levels.now a.marks.now a.numbers.now) absolute_end a.id a.end-time _ a.fade_out _ _ refl _ c.amend.ensures

@@ -1,0 +1,14 @@
+-- `live::pushes::push` meets its contract.
+use Rattle.ledger.specs.Calls.{absolute}
+use Rattle.ledger.specs.Refusals.{stated_end}
+use Rattle.ledger.specs.Steps.{pushed_time}
+use Rattle.memory.specs.Memory.{cells_of}
+use Rattle.live.proofs.Entering.{pushed_in}
+use Rattle.std.proofs.Common.{rules}
+use Rattle.live.proofs.pushes.push.Goals as goal
+
+pub returns : goal.returns
+unfolding stated_end pushed_time
+returns c =
+    let a = c.args in
+    pushed_in absolute (cells_of a.times.now a.levels.now a.marks.now a.numbers.now) _ _ _ _ a.start-time a.end-time a.fade-ease a.fade_in a.fade_out a.source a.gain c.push_to.ensures

@@ -1,0 +1,10 @@
+-- `live::rendering::mix_channels` meets its contract.
+use Rattle.std.proofs.Common.{◌/◌, List, length, take, ap, ◌∙◌, rules}
+use lib.Ieee.{Float}
+use Rattle.ledger.specs.BlockSamples.{overlay}
+use Rattle.live.proofs.rendering.mix_channels.Goals as goal
+
+pub returns : goal.returns
+returns c =
+    let out = c.args.out.now in
+    (c.mix-block.ensures.0, (c.overlay_channels.ensures ∙ ap (λ (x : List Float). overlay (length out / 64) (take 64 x) out) c.mix-block.ensures.1.0, c.mix-block.ensures.1.1))

@@ -1,0 +1,37 @@
+-- `live::rendering::mix_tick` meets its contract.
+use Rattle.std.proofs.Common.{◌≡◌, ℕ, ◌-◌, ◌<◌, ◌≤◌, sym, refl, ap, ◌∙◌, arith, rules}
+use lib.Ieee.{Float, of_bits}
+use Rattle.floats.specs.Arithmetic.{zeroᶠ, ◌+ˢ◌}
+use Rattle.event.specs.declared.Event.{Event}
+use Rattle.ledger.specs.TickSamples.{after_tick}
+use Rattle.sequencer.specs.Rendering.{add_tick, tick_pass}
+use Rattle.sequencer.specs.Passing.{Passing, passing_end}
+use Rattle.memory.specs.Memory.{cells_of, engine_of}
+use Rattle.memory.specs.Laws.{Sized}
+use Rattle.live.proofs.Sounding.{tick_moves, sounds_sized, sounds-start, sounds_on}
+use Rattle.live.proofs.rendering.mix_tick.Goals as goal
+
+pub loop-k-init : goal.loop-k-init
+unfolding of_bits
+loop-k-init c = (omega (arith, c.least-m.ensures), c.sized.ensures, sounds-start _ _ _ _ _ _ c.least-m.ensures _ refl)
+
+pub overflow_add-slot : goal.overflow_add-slot
+overflow_add-slot c = let l = c.loop-k.invariant.0 in let t = c.mix_place-slot.ensures.1 in omega (arith, l, t)
+
+pub loop-k-preserved : goal.loop-k-preserved
+loop-k-preserved c =
+    let l = c.loop in
+    let a = c.args in
+    let here = cells_of a.times.now l.levels l.marks a.numbers.now in
+    let most : c.mix-place.result < 256 = omega (arith, l.invariant.0, c.mix-place.ensures.1) in (
+      l.invariant.0,
+      sounds_sized here _ _ c.after_tick-event.result.unit l.invariant.1 most c.put_unit.ensures,
+      sounds_on _ _ _ a.order tick_moves _ _ l.k _ here l.invariant.1 l.sum _ _ _ c.loop-test.true c.mix-place.ensures.0 most c.event_at-event.ensures
+          (ap (λ (e : Event). e.unit) c.after_tick-event.ensures) (ap (λ (x : Float). l.sum +ˢ x) c.tick_sample-sum.ensures) l.invariant.2 _ c.put_unit.ensures,
+    )
+
+pub returns : goal.returns
+unfolding tick_pass
+returns c =
+    let l = c.loop-k in
+    passing_end refl c.loop-k-test.false l.invariant.2

@@ -1,0 +1,32 @@
+-- `overlap::sift_up` meets its contract: the loop keeps what the definition gives from place i on. Assumes nothing.
+use borrow.Author.Rules.{rules}
+use Prim.Native.Nat.{◌≤◌, ◌<◌}
+use mathlib.Core.Path.{◌≡◌, refl, sym, ap, ◌∙◌}
+use mathlib.Core.Logic.{⊎_elim}
+use native.Mathlib.Omega.{arith}
+use lib.ListN.{length, length-set}
+use borrow.Author.Tests.{not-true, not-false}
+use Rattle.ready.specs.Sift.{rise}
+use Rattle.overlap.specs.Keys.{key_less, no_key, pairs}
+use Rattle.ready.specs.Rounds.{Rising}
+use Rattle.overlap.proofs.Sifting.{up_on, up_root, up_stop}
+use Rattle.overlap.proofs.sift_up.Goals as goal
+
+pub loop-i-init : goal.loop-i-init
+loop-i-init c = (search rules, refl, c.requires.1, refl, record { fuel = c.args.n; enough = omega arith; gives = refl })
+
+pub loop-i-preserved : goal.loop-i-preserved
+loop-i-preserved c =
+    let l = c.loop-i in
+    let v = l.invariant in (
+      omega arith,
+      simp length-set v.1,
+      simp length-set v.2,
+      simp length-set v.3,
+      up_on _ _ v.2 _ _ _ c.loop-i-test.true (sym c.is_sooner.ensures ∙ not-false _ c.if-not-is_sooner.false-raw) v.4,
+    )
+
+pub returns : goal.returns
+returns c =
+    let v = c.loop-i.invariant in
+    ⊎_elim (λ w. up_root _ _ v.2 _ _ _ w.left v.4) (λ w. up_stop _ _ v.2 _ _ _ (sym w.3.ensures ∙ not-true _ w.4.taken) v.4) c.loop-i-test.branch

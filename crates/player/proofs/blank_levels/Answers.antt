@@ -1,0 +1,8 @@
+-- `player::blank_levels` meets its contract.
+use mathlib.Core.Path.{refl}
+use lib.Ieee.{of_bits}
+use Rattle.player.proofs.blank_levels.Goals as goal
+
+pub returns : goal.returns
+unfolding of_bits
+returns c = refl

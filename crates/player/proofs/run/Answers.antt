@@ -1,0 +1,122 @@
+-- `player::run` meets its contract: the loop's invariant is `Rolling`, of which each way out cites one lemma.
+use borrow.Author.Rules.{rules}
+use mathlib.Core.Path.{◌≡◌, refl, sym, ◌∙◌}
+use mathlib.Core.Bool.{false}
+use mathlib.Core.Logic.{⊎_elim}
+use mathlib.Core.List.{[], ◌∷◌}
+use Prim.Native.Nat.{◌-◌}
+use native.Mathlib.Omega.{arith}
+use lib.ListN.{length}
+use denote.Enum.Declared.{tag_of}
+use types.Run.{OneOf}
+use Rattle.tape.specs.declared.reader.Read.{Read}
+use Rattle.tape.specs.declared.reader.Read.TheVariants.{Record, Refused, End}
+use Rattle.tape.specs.contracts.reader.Read.{the_type}
+use Rattle.tape.specs.Cursors.{is_record, moves}
+use Rattle.record_output.specs.Endings.{ending}
+use Rattle.memory.specs.Memory.{cells_of, engine_of}
+use Rattle.player.proofs.Rolling.{Rolling, start, answered, inside, same_rest, same_sets, same-put, ends-short, ends_unread, ends-full, ends-refused, goes_on}
+use Rattle.player.proofs.run.Goals as goal
+
+not-record : (r : Read) → OneOf (1 ∷ 2 ∷ []) (tag_of the_type r) → is_record r ≡ false
+not-record (Record k call next) h = absurd (⊎_elim (λ z. omega arith) (λ z. omega arith) h)
+not-record (Refused k n) h = refl
+not-record End h = refl
+
+pub loop-form-init : goal.loop-form-init
+loop-form-init c = start _ _ _ _ _ _ _ _ c.silence-samples.ensures
+
+pub shape_of-out-then-is_short : goal.shape_of-out-then-is_short
+shape_of-out-then-is_short c = same_rest _ _ _ _ _ _ _ c.loop-form.invariant
+
+pub returns-then-is_short : goal.returns-then-is_short
+returns-then-is_short c =
+    let w = c.loop-form.invariant in
+    answered _ _ _ _ _ _ _ w c.stopped.ensures (ends-short _ _ _ _ _ _ _ w (sym c.is_short.ensures ∙ c.if-is_short.true))
+
+pub shape_of-out-in_default : goal.shape_of-out-in_default
+shape_of-out-in_default c =
+    let w = c.loop.invariant in
+    let l = c.loop in
+    let r = c.read.result in
+    let f = c.args.form in
+    same_sets _ _ _ _ _ _ _ w (ending f r c.counts-counts.result (length l.out - l.at)).written (c.unread-stop.ensures.used_after.1 (inside _ _ _ _ _ _ _ w)).1.1.0
+
+pub returns-in_default : goal.returns-in_default
+returns-in_default c =
+    let w = c.loop.invariant in
+    let i = c.is-short.ensures in
+    let j = c.if1.false in
+    let r = c.read in
+    let m = c.match.keys2 in
+    answered _ _ _ _ _ _ _ w c.stopped-in_default.ensures
+    (ends_unread _ _ _ _ _ _ _ w (sym i ∙ j) r.result r.ensures (not-record r.result m) c.counts-counts.ensures (c.unread-stop.ensures.used_after.1 (inside _ _ _ _ _ _ _ w)))
+
+pub overflow_sub-out : goal.overflow_sub-out
+overflow_sub-out c = inside _ _ _ _ _ _ _ c.loop-form.invariant
+
+pub shape_of-out-then-out-at : goal.shape_of-out-then-out-at
+shape_of-out-then-out-at c = same_rest _ _ _ _ _ _ _ c.loop.invariant
+
+pub returns-then-out-at : goal.returns-then-out-at
+returns-then-out-at c =
+    let w = c.loop.invariant in
+    let i = c.is-short.ensures in
+    let j = c.if1.false in
+    let r = c.read.ensures in
+    let g = c.r.given in
+    let v = g.0 in
+    answered _ _ _ _ _ _ _ w c.stopped-then-out-at.ensures
+    (ends-full _ _ _ _ _ _ _ w (sym i ∙ j) v.0 v.1.0 v.1.1.0 (sym r ∙ g.1) (c.room_for.ensures v.0 _ _ w.long) c.if-out-at.true)
+
+pub slice_bounds-perform-end : goal.slice_bounds-perform-end
+slice_bounds-perform-end c = sym c.loop.invariant.long
+
+pub shape_of-out-then-done-eq1 : goal.shape_of-out-then-done-eq1
+shape_of-out-then-done-eq1 c =
+    let w = c.loop.invariant in
+    let i = c.is-short.ensures in
+    let j = c.if1.false in
+    let r = c.read.ensures in
+    let g = c.r.given in
+    let v = g.0 in
+    let n = c.room_for.ensures in
+    let k = c.if-out-at.false in
+    same-put _ _ _ _ _ _ _ w (sym i ∙ j) v.0 v.1.0 v.1.1.0 (sym r ∙ g.1) (n v.0 _ _ w.long) k c.perform-done.ensures.samples.1.1
+
+pub returns-then-done-eq1 : goal.returns-then-done-eq1
+returns-then-done-eq1 c =
+    let w = c.loop.invariant in
+    let i = c.is-short.ensures in
+    let j = c.if1.false in
+    let r = c.read.ensures in
+    let g = c.r.given in
+    let v = g.0 in
+    let n = c.room_for.ensures in
+    let k = c.if-out-at.false in
+    let p = c.perform-done.ensures in
+    answered _ _ _ _ _ _ _ w c.stopped-then-done-eq1.ensures
+    (ends-refused _ _ _ _ _ _ _ w (sym i ∙ j) v.0 v.1.0 v.1.1.0 (sym r ∙ g.1) (n v.0 _ _ w.long) k p.1.1.1 p.0 (sym p.1.1.0 ∙ c.if-done-eq1.true))
+
+pub loop-form-smaller : goal.loop-form-smaller
+loop-form-smaller c =
+    let r = c.read.ensures in
+    let g = c.r.given in
+    let v = g.0 in
+    let m = moves _ _ v.0 v.1.0 v.1.1.0 (sym r ∙ g.1) in
+    let x = m.0 in
+    let y = m.1 in
+    omega arith
+
+pub loop-form-preserved : goal.loop-form-preserved
+loop-form-preserved c =
+    let w = c.loop.invariant in
+    let i = c.is-short.ensures in
+    let j = c.if1.false in
+    let r = c.read.ensures in
+    let g = c.r.given in
+    let v = g.0 in
+    let n = c.room_for.ensures in
+    let k = c.if-out-at.false in
+    let p = c.perform-done.ensures in
+    goes_on _ _ _ _ _ _ _ w (sym i ∙ j) v.0 v.1.0 v.1.1.0 (sym r ∙ g.1) (n v.0 _ _ w.long) k p.1.1.1 p.0 p.1.0 (λ h. c.if-done-eq1.false (p.1.1.0 ∙ h))

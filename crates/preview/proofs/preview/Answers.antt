@@ -1,0 +1,26 @@
+-- `preview::preview` meets its contract: the loop walks the run (`runs.specs.Turns`). Assumes nothing.
+use borrow.Author.Rules.{rules}
+use borrow.Author.Tests.{le-leb, lt-leb}
+use mathlib.Core.Path.{refl, sym}
+use Prim.Native.Nat.{◌+◌, ◌-◌}
+use native.Mathlib.Nat.{add_assoc, add-zero}
+use lib.Ieee.{nan}
+use lib.ListN.{length}
+use Rattle.floats.specs.Arithmetic.{◌×ˢ◌}
+use Rattle.preview.specs.Preview.{gain_at}
+use Rattle.runs.specs.Turns.{Turns, start, turn, done}
+use Rattle.preview.proofs.preview.Goals as goal
+
+pub returns-then-first-gt1024 : goal.returns-then-first-gt1024
+returns-then-first-gt1024 c = rw (lt-leb c.args.first 1024 c.if-first-gt1024.true) (refl, refl)
+
+pub loop-i-init : goal.loop-i-init
+loop-i-init c = rw (add-zero c.args.first) (start _ _ _ _)
+
+pub loop-i-preserved : goal.loop-i-preserved
+loop-i-preserved c =
+    rw (c.gain.ensures, sym (add_assoc c.args.first c.loop-i.i 1))
+    (turn _ _ _ _ nan c.loop-i.invariant c.loop-i-test.true)
+
+pub returns : goal.returns
+returns c = rw (le-leb c.args.first 1024 c.if-first-gt1024.false) (refl, done _ _ _ _ c.loop-i.invariant c.loop-i-test.false)

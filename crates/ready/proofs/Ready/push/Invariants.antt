@@ -1,0 +1,21 @@
+use borrow.Author.Rules.{rules}
+use borrow.Author.Tests.{lt-ltb, le-ltb, not-true, not-false}
+use native.Mathlib.Omega.{arith}
+use Prim.Native.Nat.{◌+◌, ◌≤◌}
+use mathlib.Core.Path.{refl, sym, ap, ◌∙◌}
+use mathlib.Core.Logic.{⊎_elim}
+use mathlib.Core.List.{List}
+use Rattle.event.specs.declared.Event.{Event}
+use Rattle.event.specs.Events.{earlier}
+use Rattle.event.specs.Blank.{blank}
+use Rattle.ready.specs.Sift.{rise}
+use Rattle.ready.specs.Waiting.{pushed}
+use Rattle.ready.specs.Rounds.{Rising, rising_on, risen_root, risen_stop}
+use Rattle.ready.proofs.Ready.push.Given as goal
+
+-- from place i on the event rises to what the definition gives
+abbrev pub invariant-loop-i : goal.invariant-loop-i
+invariant-loop-i l = (l.i ≤ l.n) × Rising earlier blank l.self.items l.i l.event (rise earlier blank l.n l.initial.l.self.items l.n l.event)
+
+abbrev pub decreases-loop-i : goal.decreases-loop-i
+decreases-loop-i l = l.i

@@ -1,0 +1,32 @@
+-- `realseq::SequencerBackend::set_sample_rate` meets its contract. Assumes nothing.
+use Rattle.std.proofs.Common.{◌≡◌, ℕ, ap, ◌∙◌, rules}
+use lib.Ieee.{Float}
+use Rattle.refusals.specs.Refusals.{rate_refusal}
+use Rattle.sequencer.specs.declared.Sequencer.{Sequencer}
+use Rattle.sequencer.specs.Resets.{re_rated}
+use Rattle.realseq.specs.declared.SequencerBackend.{SequencerBackend}
+use Rattle.realseq.specs.Handling.{drained}
+use Rattle.realseq.specs.Answers.{refuses}
+use Rattle.realseq.specs.Backs.{with_engine, rates}
+use Rattle.realseq.specs.Answers.{accepts}
+use Rattle.realseq.proofs.Choices.{refused, done as gives}
+use Rattle.realseq.proofs.SequencerBackend.set_sample_rate.Goals as goal
+
+module _ (d : SequencerBackend) (r : Float) (k : ℕ) (q : k ≡ rate_refusal r) where
+  rate-refused : (k ≡ 0 → ⊥) → refuses d k ≡ rates d r
+  unfolding rates
+  rate-refused h = refused k (rate_refusal r) q d _ h
+
+  rate-done : (e : SequencerBackend) (s : Sequencer) → k ≡ 0 → e ≡ drained d → s ≡ re_rated e.sequencer r → accepts (with_engine e s) ≡ rates d r
+  unfolding rates
+  rate-done e s z h g =
+      gives k (rate_refusal r) q d _ _ z
+      (ap (λ (x : Sequencer). accepts (with_engine e x)) g ∙ ap (λ (x : SequencerBackend). accepts (with_engine x (re_rated x.sequencer r))) h)
+
+pub returns-then-no-ne0 : goal.returns-then-no-ne0
+returns-then-no-ne0 c = rate-refused _ _ _ c.rate_refusal-no.ensures c.if-no-ne0.true
+
+pub returns : goal.returns
+returns c =
+    let m = c.before.before in
+    rate-done _ _ _ m.rate_refusal-no.ensures _ _ m.if-no-ne0.false m.drain-d.ensures c.change_rate-s.ensures

@@ -1,0 +1,42 @@
+-- `realseq::SequencerBackend::tick` meets its contract.
+use Rattle.std.proofs.Common.{◌≡◌, List, ap, ◌∙◌, rules}
+use lib.Ieee.{Float}
+use Rattle.event.specs.declared.MixOrder.{MixOrder}
+use Rattle.sequencer.specs.declared.Outcome as Engine
+use Rattle.sequencer.specs.Answers as Engines
+use Rattle.sequencer.specs.Rendering.{rendered_tick, rendered_tick_out}
+use Rattle.realseq.specs.Answers.{as_desk, accepts}
+use Rattle.realseq.specs.declared.SequencerBackend.{SequencerBackend}
+use Rattle.realseq.specs.declared.Outcome.{Outcome}
+use Rattle.realseq.specs.Handling.{past_sent, drained}
+use Rattle.realseq.specs.Backs.{with_engine, stepped_to, ticks, tick_outs}
+use Rattle.realseq.proofs.Choices.{refused, done, unheard, heard}
+use Rattle.realseq.proofs.SequencerBackend.tick.Goals as goal
+
+module _ (order : MixOrder) (pool : List Float) (d e : SequencerBackend) (h : e ≡ drained d) where
+  -- r is the engine's outcome, and o the desk's
+  stepped : (r : Engine.Outcome) (o : Outcome) → r ≡ Engines.accepts (rendered_tick order pool e.sequencer) → o ≡ stepped_to e r
+      → o ≡ accepts (past_sent (with_engine (drained d) (rendered_tick order pool (drained d).sequencer)))
+  unfolding as_desk
+  stepped r o q g = g ∙ ap (stepped_to e) q ∙ ap (λ (b : SequencerBackend). accepts (past_sent (with_engine b (rendered_tick order pool b.sequencer)))) h
+
+  sounded : (out o : List Float) → o ≡ rendered_tick_out order pool e.sequencer out → o ≡ rendered_tick_out order pool (drained d).sequencer out
+  sounded out o q = q ∙ ap (λ (b : SequencerBackend). rendered_tick_out order pool b.sequencer out) h
+
+pub returns-then-no-ne0 : goal.returns-then-no-ne0
+unfolding ticks tick_outs
+returns-then-no-ne0 c =
+    let no = c.tick_refusal-no.ensures in
+    (refused _ _ no _ _ c.if-no-ne0.true, unheard _ _ no _ _ c.if-no-ne0.true)
+
+pub returns : goal.returns
+unfolding ticks tick_outs
+returns c =
+    let r = c.before.before.before in
+    let d = r.before.before.before in
+    let a = d.args in
+    let some = d.if-no-ne0.false in
+    let no = d.tick_refusal-no.ensures in (
+      done _ _ no _ _ _ some (stepped a.order a.pool.now a.self d.drain-d.result d.drain-d.ensures _ _ r.render_tick-r.ensures.0 c.after_step.ensures),
+      heard _ _ no a.out.now _ _ some (sounded a.order a.pool.now a.self d.drain-d.result d.drain-d.ensures a.out.now _ r.render_tick-r.ensures.1),
+    )

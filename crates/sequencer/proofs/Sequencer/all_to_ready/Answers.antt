@@ -1,0 +1,33 @@
+-- `sequencer::Sequencer::all_to_ready` meets its contract.
+use Rattle.std.proofs.Common.{◌≡◌, ◌+◌, ◌-◌, ◌≤◌, refl, ◌∙◌, ⊎_elim, arith, rules, le-ltb, lt-ltb}
+use Rattle.sequencer.specs.Moves.{held_at, to_ready}
+use Rattle.sequencer.specs.Turns.{Readying, readying_on, readied_all}
+use Rattle.sequencer.proofs.Sequencer.all_to_ready.Goals as goal
+use Rattle.sequencer.proofs.Sequencer.all_to_ready.Goals.{Joined-i-past}
+
+)
+
+-- the event that the code takes is that of the definition
+taken : (c : Joined-i-past invariant-loop decreases-loop) → (let l = c.loop-i in c.if-i-past.event ≡ held_at c.least-past.result l.self l.i)
+taken c =
+    let l = c.loop-i in
+    let p = c.least-past.result in
+    ⊎_elim (λ w. w.2 ∙ rw (lt-ltb l.i p w.0.taken)) (λ w. w.2 ∙ rw (le-ltb l.i p w.0.left)) c.if-i-past.branch
+
+pub overflow_add-n : goal.overflow_add-n
+overflow_add-n c = omega (arith, c.least-past.ensures, c.least.ensures)
+
+pub loop-i-init : goal.loop-i-init
+loop-i-init c = (
+  omega (arith, c.least-past.ensures),
+  omega (arith, c.least.ensures),
+  record { fuel = c.least-past.result + c.least.result; exact = omega arith; gives = refl },
+
+pub loop-i-preserved : goal.loop-i-preserved
+loop-i-preserved c =
+    let d = c.before in
+    let l = d.loop-i in
+    (l.invariant.0, l.invariant.1, readying_on _ _ _ _ _ _ _ (taken d) c.push_ready-self.ensures d.loop-i-test.true l.invariant.2)
+
+pub returns : goal.returns
+returns c = readied_all c.args.self c.least-past.ensures c.least.ensures refl c.loop-i-test.false c.loop-i.invariant.2

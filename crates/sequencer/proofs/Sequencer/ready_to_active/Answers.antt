@@ -1,0 +1,42 @@
+-- `sequencer::Sequencer::ready_to_active` meets its contract.
+use Rattle.std.proofs.Common.{◌≡◌, get_or, sym, refl, ap, ◌∙◌, subst, arith, rules}
+use borrow.Author.Tests.{not-true, not-false}
+use lib.Ieee.{of_bits}
+use Rattle.event.specs.Blank.{blank}
+use Rattle.sequencer.specs.declared.Sequencer.{Sequencer}
+use Rattle.sequencer.specs.Moves.{activated, ready_to_active}
+use Rattle.sequencer.specs.Turns.{Activating, activated_len, activated-none, activated-beyond, activated-late, activating_on}
+use Rattle.sequencer.proofs.Sequencer.ready_to_active.Goals as goal
+
+carried : {a b r : Sequencer} → a ≡ b → Activating b r → Activating a r
+carried {a} {b} {r} h w = subst (λ (x : Sequencer). Activating x r) (sym h) w
+
+pub loop-self-init : goal.loop-self-init
+unfolding ready_to_active
+loop-self-init c = record { fuel = c.args.self.ready_len; enough = omega arith; gives = refl }
+
+pub loop-self-smaller : goal.loop-self-smaller
+loop-self-smaller c =
+    let d = c.before.before.before.before in
+    let s = d.loop-self.self in
+    let p = d.loop-self-test.true in
+    let e = ap (λ (x : Sequencer). x.ready_len) c.start_first-self.ensures ∙ activated_len s (get_or s.ready 0 blank) p d.if-self-gt256.false in
+    omega (arith, p, e)
+
+pub loop-self-preserved : goal.loop-self-preserved
+loop-self-preserved c =
+    let d = c.before.before.before.before in
+    let l = d.loop-self in
+    carried c.start_first-self.ensures (activating_on l.self _ d.loop-self-test.true d.if-self-gt256.false (not-false _ c.if-not-first-self.false-raw) l.invariant)
+
+pub returns-after-loop-self : goal.returns-after-loop-self
+unfolding of_bits
+returns-after-loop-self c = activated-none _ _ c.loop-self-test.false c.loop-self.invariant
+
+pub returns-then-self-gt256 : goal.returns-then-self-gt256
+unfolding of_bits
+returns-then-self-gt256 c = activated-beyond _ _ c.if-self-gt256.true c.loop-self.invariant
+
+pub returns-then-not-first-self : goal.returns-then-not-first-self
+unfolding of_bits
+returns-then-not-first-self c = activated-late _ _ (not-true _ c.if-not-first-self.true-raw) c.loop-self.invariant

@@ -1,0 +1,26 @@
+use mathlib.Core.Path.{◌≡◌, refl, sym, ap, ◌∙◌}
+use Rattle.standing.specs.Standings.{standing_in}
+use borrow.Author.Rules.{rules}
+use Rattle.standing.proofs.standing_of.Goals as goal
+
+pub returns-then-has : goal.returns-then-has
+unfolding standing_in
+returns-then-has c = rw (sym c.has.ensures ∙ c.if-has.true) refl
+
+pub returns-then-has-2 : goal.returns-then-has-2
+unfolding standing_in
+returns-then-has-2 c = rw (sym c.has.ensures ∙ c.if-has.false, sym c.has-2.ensures ∙ c.if-has-2.true) refl
+
+pub returns-then-has-3 : goal.returns-then-has-3
+unfolding standing_in
+returns-then-has-3 c =
+    let b = c.before.before.before in
+    let a = b.before.before.before in
+    rw (sym a.has.ensures ∙ a.if-has.false, sym b.has-2.ensures ∙ b.if-has-2.false, sym c.has-3.ensures ∙ c.if-has-3.true) refl
+
+pub returns : goal.returns
+unfolding standing_in
+returns c =
+    let b = c.before.before.before in
+    let a = b.before.before.before in
+    rw (sym a.has.ensures ∙ a.if-has.false, sym b.has-2.ensures ∙ b.if-has-2.false, sym c.has-3.ensures ∙ c.if-has-3.false) refl

@@ -1,0 +1,19 @@
+-- `state_listing::digest::index` meets its contract, round by round. Assumes nothing.
+use Rattle.std.proofs.Common.{ℕ, ◌-◌, List, get_or, ap, ◌∙◌, rules}
+use Rattle.event.specs.declared.EventId.{EventId}
+use Rattle.lists.specs.Index.{no_id}
+use Rattle.digests.specs.Digests.{mixed}
+use Rattle.state_listing.specs.Digests.{each, index_digest}
+use Rattle.state_listing.proofs.Running.{Running, running, running_on, run_through}
+use Rattle.state_listing.proofs.digest.index.Goals as goal
+use Rattle.state_listing.proofs.digest.index.Invariants.{one}
+
+pub loop-i-init : goal.loop-i-init
+loop-i-init c = running _ _
+
+pub loop-i-preserved : goal.loop-i-preserved
+loop-i-preserved c = running_on _ _ c.loop-i-test.true c.mixed-digest.ensures c.loop-i.invariant
+
+pub returns : goal.returns
+unfolding index_digest
+returns c = run_through _ _ c.loop-i-test.false c.loop-i.invariant ∙ ap (λ (m : ℕ). each (one c.args.ids) m 0 0) c.least-most.ensures

@@ -1,0 +1,7 @@
+-- `state_listing::digest::mixed_time` meets its contract. Assumes nothing.
+use Rattle.std.proofs.Common.{refl, rules}
+use Rattle.state_listing.proofs.Mixing.{after}
+use Rattle.state_listing.proofs.digest.mixed_time.Goals as goal
+
+pub returns : goal.returns
+returns c = after refl c.f64_to_bits.ensures c.mixed.ensures

@@ -1,0 +1,19 @@
+-- `state_listing::digest::ordered_events` meets its contract, round by round. Assumes nothing.
+use Rattle.std.proofs.Common.{ℕ, ◌-◌, List, get_or, ap, ◌∙◌, rules}
+use Rattle.event.specs.declared.Event.{Event}
+use Rattle.event.specs.Blank.{blank}
+use Rattle.digests.specs.Digests.{mixed_all}
+use Rattle.state_listing.specs.Digests.{event_words, each, ordered_events}
+use Rattle.state_listing.proofs.Running.{Running, running, running_on, run_through}
+use Rattle.state_listing.proofs.digest.ordered_events.Goals as goal
+use Rattle.state_listing.proofs.digest.ordered_events.Invariants.{one}
+
+pub loop-i-init : goal.loop-i-init
+loop-i-init c = running _ _
+
+pub loop-i-preserved : goal.loop-i-preserved
+loop-i-preserved c = running_on _ _ c.loop-i-test.true c.mixed_event-digest.ensures c.loop-i.invariant
+
+pub returns : goal.returns
+unfolding ordered_events
+returns c = run_through _ _ c.loop-i-test.false c.loop-i.invariant ∙ ap (λ (m : ℕ). each (one c.args.items) m 0 0) c.least-most.ensures

@@ -1,0 +1,7 @@
+use Rattle.std.proofs.Common.{◌≡◌, ℕ, suc, ◌+◌, ◌-◌, ◌*◌, ◌^◌, ◌<◌, ◌≤◌, min, sym, refl, ap, ◌∙◌, subst, arith, lit≤, rules, le-ltb, lt-ltb, eq-eqb, ne_eqb, le-leb}
+use borrow.Author.Tests.{lt-leb}
+use Rattle.tape.specs.Fields.{field_below}
+use Rattle.tape.proofs.fields.word32.Goals as goal
+
+pub overflow_cast-result : goal.overflow_cast-result
+overflow_cast-result c = record { fits = subst (λ (k : ℕ). k < 2 ^ 32) (sym c.word.ensures) (field_below 4 c.args.bs.now c.args.at 4 (λ i. (c.shared_slice_known-1.given i).fits) (lit≤ tt)) }

@@ -1,0 +1,9 @@
+use Rattle.std.proofs.Common.{rules, le-ltb, lt-ltb, eq-eqb, ne_eqb, le-leb}
+use borrow.Author.Tests.{lt-leb}
+use Rattle.tape.proofs.reader.mode_of.Goals as goal
+
+pub returns-in-0 : goal.returns-in-0
+returns-in-0 c = simp (eq-eqb _ _ c.in-0.is)
+
+pub returns-in_default : goal.returns-in_default
+returns-in_default c = simp (ne_eqb _ _ c.in_default.rest.1)

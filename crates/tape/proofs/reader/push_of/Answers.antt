@@ -1,0 +1,7 @@
+use Rattle.tape.specs.Tape.{push_of}
+use Rattle.std.proofs.Common.{rules}
+use Rattle.tape.proofs.reader.push_of.Goals as goal
+
+pub returns : goal.returns
+unfolding push_of
+returns c = cc

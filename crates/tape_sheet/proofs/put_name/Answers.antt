@@ -1,0 +1,9 @@
+use Rattle.tape_sheet.specs.Elements.{name_text}
+use borrow.Author.Rules.{rules}
+use Rattle.tape_sheet.proofs.put_name.Goals as goal
+
+pub returns : goal.returns
+unfolding name_text
+returns c =
+    let s2 = c.before.before in
+    s2.put_by_place.ensures

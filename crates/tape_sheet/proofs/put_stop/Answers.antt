@@ -1,0 +1,31 @@
+use mathlib.Core.Path.{refl, ap}
+use Prim.Native.Nat.{ℕ, ◌+◌}
+use borrow.Author.Tests.{eq-eqb, ne_eqb}
+use Rattle.listing.specs.Pieces.{add_all}
+use Rattle.listing.specs.Ascii.{ascii}
+use Rattle.tape_words.specs.Joining.{one, further, named}
+use Rattle.tape_sheet.specs.Elements.{open_text, stop_text}
+use borrow.Author.Rules.{rules}
+use Rattle.tape_sheet.proofs.put_stop.Goals as goal
+
+pub returns-then-stop-eq0 : goal.returns-then-stop-eq0
+unfolding add_all stop_text
+returns-then-stop-eq0 c = rw (eq-eqb _ _ c.if-stop-eq0.true) refl
+
+pub returns : goal.returns
+unfolding stop_text
+returns c =
+    let s2 = c.before.before in
+    let s7 = s2.before.before.before.before.before in
+    let s11 = s7.before.before.before.before in
+    let s16 = s11.before.before.before.before.before in
+    let s19 = s16.before.before.before in
+    let s20 = s19.before in
+    let s22 = s20.before.before in
+    let a = s22.args in
+    let e1 = named _ (ap (λ (y¹ : ℕ). open_text (ascii "z") 170 (y¹ + 42)) s19.wave-y.ensures.value) s16.put_open_text-to.ensures in
+    let e2 = one _ _ s11.put_bytes-to.ensures in
+    let e3 = s7.put_refusal-to.ensures in
+    let e4 = one _ _ s2.put_bytes.ensures in
+    let r = further _ _ _ e1 (further _ _ _ e2 (further _ _ _ e3 e4)) in
+    named _ (rw (ne_eqb _ _ s20.if-stop-eq0.false) refl) r

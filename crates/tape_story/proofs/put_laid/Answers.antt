@@ -1,0 +1,14 @@
+use Rattle.tape_words.specs.Joining.{one, further}
+use Rattle.tape_story.specs.Lines.{laid_text}
+use borrow.Author.Rules.{rules}
+use Rattle.tape_story.proofs.put_laid.Goals as goal
+
+pub returns : goal.returns
+unfolding laid_text
+returns c =
+    let s2 = c.before.before in
+    let s8 = s2.before.before.before.before.before.before in
+    let e1 = s8.put_numbered-to.ensures in
+    let e2 = one _ _ s2.put_either.ensures in
+    let r = further _ _ _ e1 e2 in
+    r

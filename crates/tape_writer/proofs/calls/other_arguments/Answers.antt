@@ -1,0 +1,8 @@
+-- `tape_writer::calls::other_arguments` meets its contract. Assumes nothing.
+use mathlib.Core.Path.{refl}
+use lib.Ieee.{of_bits}
+use Rattle.tape_writer.proofs.calls.other_arguments.Goals as goal
+
+pub returns : goal.returns
+unfolding of_bits
+returns c = refl
