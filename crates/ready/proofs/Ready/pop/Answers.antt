@@ -19,21 +19,24 @@ use Rattle.ready.proofs.Ready.pop.Goals.{Joined-r-m, then-r-m+then-precedes, the
 -- the child that the code takes is that of the definition
 at-child : (c : Joined-r-m) → child earlier blank c.loop-i.self.items (c.args.self.len - 1) c.loop-i.i ≡ c.if-r-m.c
 at-child c = elim c.if-r-m.branch [
-    then-r-m+then-precedes w ↦ child_second earlier blank _ _ _ w.if-r-m.true (sym w.precedes.ensures ∙ w.if-precedes.true) ∙ sym w.c-is
+  | then-r-m+then-precedes w ↦ child_second earlier blank _ _ _ w.if-r-m.true (sym w.precedes.ensures ∙ w.if-precedes.true) ∙ sym w.c-is
   | then-r-m+else-precedes w ↦ child_first earlier blank _ _ _ (sym w.precedes.ensures ∙ w.if-precedes.false) ∙ sym w.c-is
-  | else-r-m w ↦ child_left earlier blank _ _ _ w.if-r-m.false ∙ sym w.c-is ]
+  | else-r-m w ↦ child_left earlier blank _ _ _ w.if-r-m.false ∙ sym w.c-is
+]
 
 above : (c : Joined-r-m) → c.loop-i.i < c.if-r-m.c
 above c = elim c.if-r-m.branch [
-    then-r-m+then-precedes w ↦ omega (arith, w.c-is)
+  | then-r-m+then-precedes w ↦ omega (arith, w.c-is)
   | then-r-m+else-precedes w ↦ omega (arith, w.c-is)
-  | else-r-m w ↦ omega (arith, w.c-is) ]
+  | else-r-m w ↦ omega (arith, w.c-is)
+]
 
 below : (c : Joined-r-m) → c.if-r-m.c < c.args.self.len - 1
 below c = elim c.if-r-m.branch [
-    then-r-m+then-precedes w ↦ omega (arith, w.c-is, w.if-r-m.true)
+  | then-r-m+then-precedes w ↦ omega (arith, w.c-is, w.if-r-m.true)
   | then-r-m+else-precedes w ↦ omega (arith, w.c-is, c.loop-i-test.true)
-  | else-r-m w ↦ omega (arith, w.c-is, c.loop-i-test.true) ]
+  | else-r-m w ↦ omega (arith, w.c-is, c.loop-i-test.true)
+]
 
 pub returns-then-n-eq0 : goal.returns-then-n-eq0
 unfolding popped
@@ -70,7 +73,7 @@ pub loop-i-2-preserved : goal.loop-i-2-preserved
 loop-i-2-preserved c =
     let d = c.before.before.before in
     let v = d.loop-i-2.invariant in
-    (omega (arith, v.0), v.1, rising_on earlier blank _ _ _ _ d.loop-i-2-test.true (sym c.precedes-in-loop-i-2.ensures ∙ not-false _ c.if-not-precedes.false-raw) v.2)
+    (omega (arith, v.0), v.1, rising_on earlier blank _ _ _ _ d.loop-i-2-test.true (sym c.precedes-in-loop-i-2.ensures ∙ c.if-not-precedes.false) v.2)
 
 pub returns : goal.returns
 unfolding popped
@@ -81,6 +84,7 @@ returns c =
     rw (lt-ltb 0 n h, le-leb n 256 c.if-n-gt256.false)
     (ap (λ (l : List Event). record { items = l; len = n - 1 })
     ((elim c.loop-i-2-test.branch [
-      else-loop-i-2-test w ↦ risen_root earlier blank _ _ _ _ w.loop-i-2-test.false r
-    | then-loop-i-2-test+then-not-precedes w ↦ risen_stop earlier blank _ _ _ _ (sym w.precedes-in-loop-i-2.ensures ∙ not-true _ w.if-not-precedes.true-raw) r ])
+      | else-loop-i-2-test w ↦ risen_root earlier blank _ _ _ _ w.loop-i-2-test.false r
+      | then-loop-i-2-test+then-not-precedes w ↦ risen_stop earlier blank _ _ _ _ (sym w.precedes-in-loop-i-2.ensures ∙ w.if-not-precedes.true) r
+    ])
     ∙ sunk earlier blank _ _ _ _ _ c.loop-i-test.false c.loop-i.invariant.2))

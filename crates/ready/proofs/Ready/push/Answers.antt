@@ -22,7 +22,7 @@ pub loop-i-init : goal.loop-i-init
 loop-i-init c = (search rules, record { fuel = c.args.self.len; enough = omega arith; gives = refl })
 
 pub loop-i-preserved : goal.loop-i-preserved
-loop-i-preserved c = (omega arith, rising_on earlier blank _ _ _ _ c.loop-i-test.true (sym c.precedes.ensures ∙ not-false _ c.if-not-precedes.false-raw) c.loop-i.invariant.1)
+loop-i-preserved c = (omega arith, rising_on earlier blank _ _ _ _ c.loop-i-test.true (sym c.precedes.ensures ∙ c.if-not-precedes.false) c.loop-i.invariant.1)
 
 pub returns : goal.returns
 unfolding pushed
@@ -31,5 +31,6 @@ returns c =
     rw (lt-ltb n 256 c.if-n-ge256.false)
     (ap (λ (l : List Event). record { items = l; len = n + 1 })
     (elim c.loop-i-test.branch [
-      else-loop-i-test w ↦ risen_root earlier blank _ _ _ _ w.loop-i-test.false c.loop-i.invariant.1
-    | then-loop-i-test+then-not-precedes w ↦ risen_stop earlier blank _ _ _ _ (sym w.precedes.ensures ∙ not-true _ w.if-not-precedes.true-raw) c.loop-i.invariant.1 ]))
+      | else-loop-i-test w ↦ risen_root earlier blank _ _ _ _ w.loop-i-test.false c.loop-i.invariant.1
+      | then-loop-i-test+then-not-precedes w ↦ risen_stop earlier blank _ _ _ _ (sym w.precedes.ensures ∙ w.if-not-precedes.true) c.loop-i.invariant.1
+    ]))
