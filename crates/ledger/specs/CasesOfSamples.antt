@@ -90,10 +90,19 @@ pub block-outputs : last_reply (block_replies 3) ≡ some (record { answer = pla
 unfolding block_replies
 block-outputs = refl
 
+-- the two parts of `block_clears`, with the samples in the form that they compute to
+block_of_9 : take 18 (last_out (block_replies 9)) ≡ halfᶠ ∷ fin false 7 (negsuc 1) ∷ fin false 3 (negsuc 0) ∷ fin false 1 (pos 1) ∷ fin false 5 (negsuc 0) ∷ fin false 3 (pos 0) ∷ fin false 7 (negsuc 0) ∷ fin false 1 (pos 2) ∷ replicate 8 zeroᶠ ++ lent 2
+unfolding block_replies
+block_of_9 = refl
+
+block_of_0 : last_out (block_replies 0) ≡ lent 128
+unfolding block_replies
+block_of_0 = refl
+
 -- 9 samples clear 16 places: in a channel 0.5, 0.75 + 1, 1.5, 2, .., 4, then zeros, and from place 16 what was lent. 64 clear all, and none none.
 pub block_clears : (take 18 (last_out (block_replies 9)) ≡ halfᶠ ∷ fin false 7 (negsuc 1) ∷ fin false 3 (negsuc 0) ∷ whole 2 ∷ fin false 5 (negsuc 0) ∷ whole 3 ∷ fin false 7 (negsuc 0) ∷ whole 4 ∷ replicate 8 zeroᶠ ++ lent 2) × (last_out (block_replies 0) ≡ lent 128)
-unfolding block_replies whole
-block_clears = (refl, refl)
+unfolding whole
+block_clears = (block_of_9, block_of_0)
 
 -- "Only produced samples move a source on": after a block of 3 from clock 0 the clip has given 3 and the ramp 2; after 8 more the clip stops at its length (DECISIONS, 16) and the ramp, which ends at 1, has given 5 more.
 pub sources_moved :
