@@ -14,11 +14,11 @@ use Rattle.little_endian.proofs.put_samples.Goals.{After-f32_to_bits-bits}
 
 -- the next sample's bytes
 next : (c : After-f32_to_bits-bits invariant-loop decreases-loop)
-    → let l = c.before.before.before in let xs = l.args.samples.now in let i = l.loop-i.i in bytes_of (drop i xs) ≡ little_endian 4 c.f32_to_bits-bits.result ++ bytes_of (drop (i + 1) xs)
+    → let xs = c.args.samples.now in let i = c.loop-i.i in bytes_of (drop i xs) ≡ little_endian 4 c.f32_to_bits-bits.result ++ bytes_of (drop (i + 1) xs)
 next c =
-    let l = c.before.before.before in
-    let xs = l.args.samples.now in
-    let i = l.loop-i.i in
+    let l = c.before in
+    let xs = c.args.samples.now in
+    let i = c.loop-i.i in
     bytes_step xs i c.loop-i-test.true ∙ ap (λ (k : ℕ). little_endian 4 k ++ bytes_of (drop (i + 1) xs)) (sym c.f32_to_bits-bits.ensures)
 
 fits_next : (c : After-f32_to_bits-bits invariant-loop decreases-loop) → c.loop-i.to + 4 ≤ length c.loop-i.out
@@ -40,13 +40,13 @@ put_word-requires c = fits_next c.before
 
 pub overflow_add-to : goal.overflow_add-to
 overflow_add-to c =
-    let l = fits_next c.before.before.before.before in
+    let l = fits_next c.before in
     let s = same-long c.loop-i.invariant.put in
     search rules
 
 pub loop-i-preserved : goal.loop-i-preserved
 loop-i-preserved c =
-    let d = c.before.before.before.before in
+    let d = c.before in
     let n = length_little 4 d.f32_to_bits-bits.result in
     next_piece bytes_of _ _ _ d.loop-i.invariant d.loop-i-test.true (little_endian 4 d.f32_to_bits-bits.result) (next d) _ c.put_word.ensures _ (omega arith)
 

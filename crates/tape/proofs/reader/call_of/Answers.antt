@@ -5,7 +5,7 @@ use Rattle.tape.proofs.reader.call_of.Goals as goal
 pub returns-in-0 : goal.returns-in-0
 unfolding call_of
 returns-in-0 c =
-    let k = c.before.before.before.before.before in
+    let k = c.before in
     simp (sym (k.plain_kind-kind.ensures ∙ ap plain_kind k.byte.ensures) ∙ c.in-0.is, sym c.byte-in-0.ensures, sym c.Mode-of.ensures, sym c.byte-in-0-2.ensures, sym c.word64.ensures)
 
 pub returns-in-1 : goal.returns-in-1
