@@ -10,7 +10,7 @@ loop-left-init c = refl
 
 pub loop-left-preserved : goal.loop-left-preserved
 loop-left-preserved c =
-    let c₁ = c.before.before.before.before.before.before.before.before in
+    let c₁ = c.before in
     turn (samples_line c₁.args.row.now) c₁.args.channels c₁.args.out.now c₁.args.at c.loop-left.out c.loop-left.to c.loop-left.left
     c.loop-left.invariant c.loop-left-test.true c.put_row-to.ensures
 

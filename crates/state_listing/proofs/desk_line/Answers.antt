@@ -10,7 +10,7 @@ use Rattle.state_listing.proofs.desk_line.Goals as goal
 pub returns : goal.returns
 unfolding add_all desk_line
 returns c =
-    let s2 = c.before.before in
+    let s2 = c.before in
     let s7 = s2.before.before.before.before.before in
     let s11 = s7.before.before.before.before in
     let s15 = s11.before.before.before.before in

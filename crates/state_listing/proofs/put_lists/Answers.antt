@@ -9,7 +9,7 @@ use Rattle.state_listing.proofs.put_lists.Goals as goal
 pub returns : goal.returns
 unfolding list_parts
 returns c =
-    let s2 = c.before.before in
+    let s2 = c.before in
     let s5 = s2.before.before.before in
     let s8 = s5.before.before.before in
     let s11 = s8.before.before.before in

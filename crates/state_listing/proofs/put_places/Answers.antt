@@ -7,7 +7,7 @@ use Rattle.state_listing.proofs.put_places.Goals as goal
 
 pub returns : goal.returns
 returns c =
-    let s2 = c.before.before in
+    let s2 = c.before in
     let s7 = s2.before.before.before.before.before in
     let s12 = s7.before.before.before.before.before in
     let s16 = s12.before.before.before.before in

@@ -9,7 +9,7 @@ use Rattle.state_listing.proofs.put_queues.Goals as goal
 pub returns : goal.returns
 unfolding queue_parts
 returns c =
-    let s2 = c.before.before in
+    let s2 = c.before in
     let s4 = s2.before.before in
     let s8 = s4.before.before.before.before in
     let s10 = s8.before.before in

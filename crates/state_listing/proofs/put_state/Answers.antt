@@ -7,7 +7,7 @@ use Rattle.state_listing.proofs.put_state.Goals as goal
 pub returns : goal.returns
 unfolding state_parts
 returns c =
-    let s2 = c.before.before in
+    let s2 = c.before in
     let s6 = s2.before.before.before.before in
     let s10 = s6.before.before.before.before in
     let s13 = s10.before.before.before in

@@ -8,7 +8,7 @@ use Rattle.state_listing.proofs.put_times.Goals as goal
 pub returns : goal.returns
 unfolding time_parts
 returns c =
-    let s2 = c.before.before in
+    let s2 = c.before in
     let s7 = s2.before.before.before.before.before in
     let s12 = s7.before.before.before.before.before in
     let s17 = s12.before.before.before.before.before in

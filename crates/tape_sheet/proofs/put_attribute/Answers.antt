@@ -6,7 +6,7 @@ use Rattle.tape_sheet.proofs.put_attribute.Goals as goal
 pub returns : goal.returns
 unfolding attribute
 returns c =
-    let s2 = c.before.before in
+    let s2 = c.before in
     let s7 = s2.before.before.before.before.before in
     let s12 = s7.before.before.before.before.before in
     let s16 = s12.before.before.before.before in

@@ -10,7 +10,7 @@ use Rattle.tape_sheet.proofs.put_axis_mark.Goals as goal
 pub returns : goal.returns
 unfolding axis_mark
 returns c =
-    let s2 = c.before.before in
+    let s2 = c.before in
     let s7 = s2.before.before.before.before.before in
     let s11 = s7.before.before.before.before in
     let s16 = s11.before.before.before.before.before in

@@ -18,7 +18,7 @@ returns-then-bits-eq0 c =
 pub returns : goal.returns
 unfolding bar
 returns c =
-    let s2 = c.before.before in
+    let s2 = c.before in
     let s7 = s2.before.before.before.before.before in
     let s12 = s7.before.before.before.before.before in
     let s15 = s12.before.before.before in

@@ -6,7 +6,7 @@ use Rattle.tape_sheet.proofs.put_bounds.Goals as goal
 pub returns : goal.returns
 unfolding bounds
 returns c =
-    let s2 = c.before.before in
+    let s2 = c.before in
     let s7 = s2.before.before.before.before.before in
     let s12 = s7.before.before.before.before.before in
     let s17 = s12.before.before.before.before.before in

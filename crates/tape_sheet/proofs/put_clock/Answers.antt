@@ -19,7 +19,7 @@ shape_of-out c =
 pub returns : goal.returns
 unfolding clock_text
 returns c =
-    let s2 = c.before.before in
+    let s2 = c.before in
     let s6 = s2.before.before.before.before in
     let s10 = s6.before.before.before.before in
     let s15 = s10.before.before.before.before.before in

@@ -6,7 +6,7 @@ use Rattle.tape_sheet.proofs.put_edit_title.Goals as goal
 pub returns : goal.returns
 unfolding edit_title
 returns c =
-    let s2 = c.before.before in
+    let s2 = c.before in
     let s6 = s2.before.before.before.before in
     let s11 = s6.before.before.before.before.before in
     let e1 = s11.put_call_at-to.ensures in

@@ -9,7 +9,7 @@ use Rattle.tape_sheet.proofs.put_foot.Goals as goal
 pub returns : goal.returns
 unfolding foot
 returns c =
-    let s2 = c.before.before in
+    let s2 = c.before in
     let s7 = s2.before.before.before.before.before in
     let s11 = s7.before.before.before.before in
     let s14 = s11.before.before.before in

@@ -26,7 +26,7 @@ shape_of-out c =
 pub returns : goal.returns
 unfolding lane
 returns c =
-    let s2 = c.before.before in
+    let s2 = c.before in
     let s7 = s2.before.before.before.before.before in
     let s13 = s7.before.before.before.before.before.before in
     let s18 = s13.before.before.before.before.before in

@@ -5,5 +5,5 @@ use Rattle.tape_sheet.proofs.put_name.Goals as goal
 pub returns : goal.returns
 unfolding name_text
 returns c =
-    let s2 = c.before.before in
+    let s2 = c.before in
     s2.put_by_place.ensures

@@ -8,7 +8,7 @@ use Rattle.tape_sheet.proofs.put_open_mark.Goals as goal
 pub returns : goal.returns
 unfolding open_mark
 returns c =
-    let s2 = c.before.before in
+    let s2 = c.before in
     let s6 = s2.before.before.before.before in
     let s11 = s6.before.before.before.before.before in
     let s15 = s11.before.before.before.before in

@@ -16,7 +16,7 @@ returns-then-from-until c =
 pub returns : goal.returns
 unfolding segment
 returns c =
-    let s2 = c.before.before in
+    let s2 = c.before in
     let s7 = s2.before.before.before.before.before in
     let s12 = s7.before.before.before.before.before in
     let s17 = s12.before.before.before.before.before in

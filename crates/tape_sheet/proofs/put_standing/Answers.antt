@@ -17,7 +17,7 @@ at_most false false false = omega arith
 
 pub overflow_add-top : goal.overflow_add-top
 overflow_add-top c =
-    let s19 = c.before.before.before.before.before.before.before.before.before.before.before.before.before.before.before.before.before.before.before in
+    let s19 = c.before in
     let s21 = s19.before.before in
     let place = s21.args.place in
     let h = s21.requires in
@@ -27,7 +27,7 @@ overflow_add-top c =
 pub returns : goal.returns
 unfolding class_text inset_of thickness_of standing
 returns c =
-    let s2 = c.before.before in
+    let s2 = c.before in
     let s6 = s2.before.before.before.before in
     let s11 = s6.before.before.before.before.before in
     let s19 = s11.before.before.before.before.before.before.before.before in

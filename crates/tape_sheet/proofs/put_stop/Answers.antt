@@ -15,7 +15,7 @@ returns-then-stop-eq0 c = rw (eq-eqb _ _ c.if-stop-eq0.true) refl
 pub returns : goal.returns
 unfolding stop_text
 returns c =
-    let s2 = c.before.before in
+    let s2 = c.before in
     let s7 = s2.before.before.before.before.before in
     let s11 = s7.before.before.before.before in
     let s16 = s11.before.before.before.before.before in

@@ -8,19 +8,19 @@ use Rattle.tape_sheet.proofs.put_wave.Goals as goal
 
 pub overflow_add-channel-2 : goal.overflow_add-channel-2
 overflow_add-channel-2 c =
-    let s20 = c.before.before.before.before.before.before.before.before.before.before.before.before.before.before.before.before.before.before.before.before in
+    let s20 = c.before in
     let h = s20.ranges.channel in
     search rules
 
 pub overflow_add-y-2 : goal.overflow_add-y-2
 overflow_add-y-2 c =
-    let s20 = c.before.before.before.before.before.before.before.before.before.before.before.before.before.before.before.before.before.before.before.before in
+    let s20 = c.before in
     let h = s20.wave-y.ensures.upper_bound in
     search rules
 
 pub overflow_add-y-3 : goal.overflow_add-y-3
 overflow_add-y-3 c =
-    let s20 = c.before.before.before.before.before.before.before.before.before.before.before.before.before.before.before.before.before.before.before.before in
+    let s20 = c.before in
     let s40 = s20.before.before.before.before.before.before.before.before.before.before.before.before.before.before.before.before.before.before.before.before in
     let h = s40.wave-y.ensures.upper_bound in
     search rules
@@ -49,7 +49,7 @@ shape_of-out c =
 pub returns : goal.returns
 unfolding wave
 returns c =
-    let s2 = c.before.before in
+    let s2 = c.before in
     let s7 = s2.before.before.before.before.before in
     let s12 = s7.before.before.before.before.before in
     let s17 = s12.before.before.before.before.before in

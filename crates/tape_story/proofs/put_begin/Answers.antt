@@ -6,7 +6,7 @@ use Rattle.tape_story.proofs.put_begin.Goals as goal
 pub returns : goal.returns
 unfolding begin_text
 returns c =
-    let s2 = c.before.before in
+    let s2 = c.before in
     let s6 = s2.before.before.before.before in
     let s10 = s6.before.before.before.before in
     let s15 = s10.before.before.before.before.before in

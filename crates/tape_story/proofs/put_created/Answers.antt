@@ -6,7 +6,7 @@ use Rattle.tape_story.proofs.put_created.Goals as goal
 pub returns : goal.returns
 unfolding created_text
 returns c =
-    let s2 = c.before.before in
+    let s2 = c.before in
     let s7 = s2.before.before.before.before.before in
     let s11 = s7.before.before.before.before in
     let e1 = s11.put_numbered-to.ensures in

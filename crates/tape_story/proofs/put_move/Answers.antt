@@ -14,7 +14,7 @@ returns-then-place-was c =
 pub returns : goal.returns
 unfolding becomes_text move_text
 returns c =
-    let s2 = c.before.before in
+    let s2 = c.before in
     let s10 = s2.before.before.before.before.before.before.before.before in
     let s13 = s10.before.before.before in
     let e1 = s10.put_numbered-to.ensures in

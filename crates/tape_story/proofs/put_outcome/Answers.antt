@@ -12,7 +12,7 @@ use Rattle.tape_story.proofs.put_outcome.Goals as goal
 pub returns-then-is_push : goal.returns-then-is_push
 unfolding outcome_text
 returns-then-is_push c =
-    let s2 = c.before.before in
+    let s2 = c.before in
     let s4 = s2.before.before in
     let s5 = s4.before in
     let p = sym s5.is_push.ensures ∙ s4.if-is_push.true in named _ (rw p refl) s2.put_laid.ensures
@@ -20,7 +20,7 @@ returns-then-is_push c =
 pub returns-in-0 : goal.returns-in-0
 unfolding outcome_text push_kind
 returns-in-0 c =
-    let s2 = c.before.before in
+    let s2 = c.before in
     let s4 = s2.before.before in
     let s8 = s4.before.before.before.before in
     let a = s8.args in named _ (sym (ap (λ (k : ℕ). outcome_text a.s k a.told a.clip a.place) s4.in-0.is)) s2.put_created.ensures
@@ -28,7 +28,7 @@ returns-in-0 c =
 pub returns-in-4 : goal.returns-in-4
 unfolding outcome_text push_kind
 returns-in-4 c =
-    let s2 = c.before.before in
+    let s2 = c.before in
     let s4 = s2.before.before in
     let s8 = s4.before.before.before.before in
     let a = s8.args in named _ (sym (ap (λ (k : ℕ). outcome_text a.s k a.told a.clip a.place) s4.in-4.is)) s2.put_edited.ensures
@@ -36,7 +36,7 @@ returns-in-4 c =
 pub returns-in-5 : goal.returns-in-5
 unfolding outcome_text push_kind
 returns-in-5 c =
-    let s2 = c.before.before in
+    let s2 = c.before in
     let s4 = s2.before.before in
     let s8 = s4.before.before.before.before in
     let a = s8.args in named _ (sym (ap (λ (k : ℕ). outcome_text a.s k a.told a.clip a.place) s4.in-5.is)) s2.put_edited-in-5.ensures
@@ -44,7 +44,7 @@ returns-in-5 c =
 pub returns-in-9 : goal.returns-in-9
 unfolding outcome_text push_kind
 returns-in-9 c =
-    let s2 = c.before.before in
+    let s2 = c.before in
     let s4 = s2.before.before in
     let s8 = s4.before.before.before.before in
     let a = s8.args in named _ (sym (ap (λ (k : ℕ). outcome_text a.s k a.told a.clip a.place) s4.in-9.is)) s2.put_rate.ensures

@@ -14,7 +14,7 @@ returns-then-calls-eq0 c =
 pub returns : goal.returns
 unfolding quiet_text
 returns c =
-    let s2 = c.before.before in
+    let s2 = c.before in
     let s7 = s2.before.before.before.before.before in
     let s11 = s7.before.before.before.before in
     let s16 = s11.before.before.before.before.before in

@@ -13,7 +13,7 @@ returns-then-refusal-eq0 c = rw (eq-eqb _ _ c.if-refusal-eq0.true) refl
 pub returns : goal.returns
 unfolding refused_text
 returns c =
-    let s2 = c.before.before in
+    let s2 = c.before in
     let s6 = s2.before.before.before.before in
     let s9 = s6.before.before.before in
     let s11 = s9.before.before in

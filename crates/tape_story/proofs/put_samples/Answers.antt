@@ -13,7 +13,7 @@ returns-then-not-heard c =
 pub returns : goal.returns
 unfolding samples_text
 returns c =
-    let s2 = c.before.before in
+    let s2 = c.before in
     let s6 = s2.before.before.before.before in
     let s11 = s6.before.before.before.before.before in
     let s14 = s11.before.before.before in

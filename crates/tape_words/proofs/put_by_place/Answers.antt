@@ -8,7 +8,7 @@ use Rattle.tape_words.proofs.put_by_place.Goals as goal
 
 pub returns-in-0 : goal.returns-in-0
 returns-in-0 c =
-    let s2 = c.before.before in
+    let s2 = c.before in
     let s4 = s2.before.before in
     let s10 = s4.before.before.before.before.before.before in
     let a = s10.args in
@@ -16,7 +16,7 @@ returns-in-0 c =
 
 pub returns-in-1 : goal.returns-in-1
 returns-in-1 c =
-    let s2 = c.before.before in
+    let s2 = c.before in
     let s4 = s2.before.before in
     let s10 = s4.before.before.before.before.before.before in
     let a = s10.args in
@@ -24,7 +24,7 @@ returns-in-1 c =
 
 pub returns-in-2 : goal.returns-in-2
 returns-in-2 c =
-    let s2 = c.before.before in
+    let s2 = c.before in
     let s4 = s2.before.before in
     let s10 = s4.before.before.before.before.before.before in
     let a = s10.args in
@@ -32,7 +32,7 @@ returns-in-2 c =
 
 pub returns-in_default : goal.returns-in_default
 returns-in_default c =
-    let s2 = c.before.before in
+    let s2 = c.before in
     let s4 = s2.before.before in
     let s10 = s4.before.before.before.before.before.before in
     let a = s10.args in

@@ -11,7 +11,7 @@ use Rattle.tape_words.proofs.put_call.Goals as goal
 pub returns-in-0 : goal.returns-in-0
 unfolding add_all call_text
 returns-in-0 c =
-    let s2 = c.before.before in
+    let s2 = c.before in
     let s5 = s2.before.before.before in
     let s7 = s5.before.before in
     named _ (sym (ap (λ (k : ℕ). call_text k s7.args.clip) s5.in-0.is)) s2.put_bytes.ensures
@@ -19,7 +19,7 @@ returns-in-0 c =
 pub returns-in-4 : goal.returns-in-4
 unfolding add_all call_text
 returns-in-4 c =
-    let s2 = c.before.before in
+    let s2 = c.before in
     let s5 = s2.before.before.before in
     let s7 = s5.before.before in
     named _ (sym (ap (λ (k : ℕ). call_text k s7.args.clip) s5.in-4.is)) s2.put_numbered.ensures
@@ -27,7 +27,7 @@ returns-in-4 c =
 pub returns-in-5 : goal.returns-in-5
 unfolding add_all call_text
 returns-in-5 c =
-    let s2 = c.before.before in
+    let s2 = c.before in
     let s5 = s2.before.before.before in
     let s7 = s5.before.before in
     named _ (sym (ap (λ (k : ℕ). call_text k s7.args.clip) s5.in-5.is)) s2.put_numbered-in-5.ensures
@@ -35,7 +35,7 @@ returns-in-5 c =
 pub returns-in-6 : goal.returns-in-6
 unfolding add_all call_text
 returns-in-6 c =
-    let s2 = c.before.before in
+    let s2 = c.before in
     let s5 = s2.before.before.before in
     let s7 = s5.before.before in
     named _ (sym (ap (λ (k : ℕ). call_text k s7.args.clip) s5.in-6.is)) s2.put_bytes-in-6.ensures
@@ -43,7 +43,7 @@ returns-in-6 c =
 pub returns-in-7 : goal.returns-in-7
 unfolding add_all call_text
 returns-in-7 c =
-    let s2 = c.before.before in
+    let s2 = c.before in
     let s5 = s2.before.before.before in
     let s7 = s5.before.before in
     named _ (sym (ap (λ (k : ℕ). call_text k s7.args.clip) s5.in-7.is)) s2.put_bytes-in-7.ensures
@@ -51,7 +51,7 @@ returns-in-7 c =
 pub returns-in-8 : goal.returns-in-8
 unfolding add_all call_text
 returns-in-8 c =
-    let s2 = c.before.before in
+    let s2 = c.before in
     let s5 = s2.before.before.before in
     let s7 = s5.before.before in
     named _ (sym (ap (λ (k : ℕ). call_text k s7.args.clip) s5.in-8.is)) s2.put_bytes-in-8.ensures
@@ -59,7 +59,7 @@ returns-in-8 c =
 pub returns-in_default : goal.returns-in_default
 unfolding call_text
 returns-in_default c =
-    let s2 = c.before.before in
+    let s2 = c.before in
     let s4 = s2.before.before in
     let s6 = s4.before.before in
     let r = s4.in_default.rest in

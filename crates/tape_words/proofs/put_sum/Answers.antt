@@ -9,7 +9,7 @@ use Rattle.tape_words.proofs.put_sum.Goals as goal
 pub returns : goal.returns
 unfolding sum_text
 returns c =
-    let s2 = c.before.before in
+    let s2 = c.before in
     let s7 = s2.before.before.before.before.before in
     let s12 = s7.before.before.before.before.before in
     let s17 = s12.before.before.before.before.before in

@@ -7,7 +7,7 @@ use Rattle.tape_words.proofs.put_thousandths.Goals as goal
 pub returns : goal.returns
 unfolding thousandths_text
 returns c =
-    let s2 = c.before.before in
+    let s2 = c.before in
     let s6 = s2.before.before.before.before in
     let s10 = s6.before.before.before.before in
     let s14 = s10.before.before.before.before in

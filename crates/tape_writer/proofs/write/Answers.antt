@@ -21,7 +21,7 @@ returns-then-buf-at c = let r = refused-19 _ _ _ (sym c.is_undefined.ensures ∙
 
 pub returns-then-buf-at-2 : goal.returns-then-buf-at-2
 returns-then-buf-at-2 c =
-    let n = c.before.before in
+    let n = c.before in
     let a = n.args in
     let k : length a.buf.now - a.at < _ = subst (λ (m : ℕ). length a.buf.now - a.at < m) n.type_size.ensures c.if-buf-at-2.true in
     let r = refused-19 _ _ _ (sym n.is_undefined.ensures ∙ n.if-is_undefined.false) (short_rest _ _ _ c.if-buf-at.false k) in
@@ -32,7 +32,7 @@ parts_of-p-requires c = kind_known _ _ (sym c.is_undefined.ensures ∙ c.if-is_u
 
 pub returns : goal.returns
 returns c =
-    let n = c.before.before.before.before.before.before.before.before.before.before.before in
+    let n = c.before in
     let a = n.args.a in
     let at = n.args.at in
     let buf = n.args.buf.now in

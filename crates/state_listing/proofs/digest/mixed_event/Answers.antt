@@ -8,7 +8,7 @@ use Rattle.state_listing.proofs.digest.mixed_event.Goals as goal
 pub returns : goal.returns
 unfolding mixed_all event_words
 returns c =
-    let s2 = c.before.before in
+    let s2 = c.before in
     let s3 = s2.before in
     let s4 = s3.before in
     let s5 = s4.before in

@@ -31,7 +31,7 @@ returns-in-Ramp c =
 pub returns-in-Clip : goal.returns-in-Clip
 unfolding mixed_all
 returns-in-Clip c =
-    let s2 = c.before.before in
+    let s2 = c.before in
     let s3 = s2.before in
     let s4 = s3.before in
     let s5 = s4.before in
