@@ -14,16 +14,11 @@ loop-i-init c = rises_in _ _ _ _ c.sized.ensures refl c.requires
 
 pub loop-i-preserved : goal.loop-i-preserved
 loop-i-preserved c =
-    let l = c.loop in
+    let l = c.loop-i in
     let here = cells_of l.times l.levels l.marks l.numbers in
     let found = c.event_at-parent.ensures ∙ waits-read here (parent l.i) blank (omega (arith, l.invariant.3)) in
     let soon = ap (earlier c.args.event) (sym found) ∙ sym c.precedes.ensures ∙ not-false _ c.if-not-precedes.false-raw in
-    rises_on _ _ _ _ _ here l.invariant _ c.copy_slot.ensures c.loop-test.true soon
+    rises_on _ _ _ _ _ here l.invariant _ c.copy_slot.ensures c.loop-i-test.true soon
 
 pub returns : goal.returns
-returns c =
-    let l = c.loop-i in
-    let here = cells_of l.times l.levels l.marks l.numbers in
-    ⊎_elim (λ w. rises_root _ _ _ _ _ here l.invariant _ c.put_event.ensures w.left)
-    (λ w. rises_stop _ _ _ _ _ here l.invariant _ c.put_event.ensures w.0.taken
-    (ap (earlier c.args.event) (sym (w.5.ensures ∙ waits-read here (parent l.i) blank (omega (arith, l.invariant.3)))) ∙ sym w.6.ensures ∙ not-true _ w.7.taken)) c.loop-i-test.branch
+returns c = ?
