@@ -1,12 +1,6 @@
 -- `list_moves::heap::rise` meets its contract.
-use borrow.Author.Tests.{not-true, not-false}
-use Rattle.std.proofs.Common.{◌≡◌, sym, refl, ap, ◌∙◌, ⊎_elim, arith, rules}
-use Rattle.event.specs.Events.{earlier}
-use Rattle.event.specs.Blank.{blank}
-use Rattle.ready.specs.Sift.{parent}
 use Rattle.memory.specs.Memory.{cells_of, engine_of}
-use Rattle.memory.specs.Laws.{waits-read}
-use Rattle.list_moves.proofs.Rising.{RisingHere, rises_in, rises_on, rises_root, rises_stop}
+use Rattle.list_moves.proofs.Rising.{RisingHere}
 use Rattle.list_moves.proofs.heap.rise.Given as goal
 
 abbrev pub invariant-loop-i : goal.invariant-loop-i

@@ -1,5 +1,4 @@
 -- `list_moves::starts::start_due` meets its contract.
-use borrow.Author.Tests.{not-true, not-false}
 use Rattle.std.proofs.Common.{◌≡◌, ◌≤◌, refl, ◌∙◌, arith, rules}
 use Rattle.sequencer.specs.Moves.{ready_to_active}
 use Rattle.sequencer.specs.Turns.{Activating}
