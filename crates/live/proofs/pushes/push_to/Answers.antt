@@ -14,5 +14,5 @@ pub returns : goal.returns
 returns c =
     let a = c.args in
     let r = accepted_in (cells_of a.times.now a.levels.now a.marks.now a.numbers.now) _ _ _ a.stated.from a.stated.until a.voice.fade_ease _ _ _ _ _ c.refusal_of-refusal.ensures c.if-refusal-ne0.false
-    _ c.sized.ensures _ _ _ c.new_event-event.ensures c.wrapping_add_u64.ensures c.push-event.ensures in
+    _ c.sized.ensures _ _ _ c.new_event-event.ensures c.wrapping_add_u64.ensures.value (c.push_event-rise.ensures.engine, c.push_event-rise.ensures.rise) in
     record { engine = r.0; answer = r.1.0; rise = r.1.1; refused = λ h. absurd h }
