@@ -2,7 +2,7 @@
 #![tactic(auto)]
 
 ghost use Rattle.std.specs.Prelude.{◌≡◌, ◌+◌, ◌≤◌, ◌<◌, length};
-ghost use Rattle.memory.specs.Memory.{cells_of, engine_of};
+ghost use Rattle.memory.specs.Memory.{before, after, engine_of};
 ghost use Rattle.claim.specs.EngineCalls.{engine_call};
 ghost use Rattle.apply.specs.Applying.{push_kind_of, pushed};
 ghost use Rattle.tape.specs.Tape.{kind_of, size_of};
@@ -65,8 +65,8 @@ fn push_of_kind(
     kind: u8,
     p: PushRecord,
 ) -> Answer
-    ensures engine { engine_of (cells_of times.new levels.new marks.new numbers.new) ≡ (pushed (push_kind_of kind) (engine_of (cells_of times.old levels.old marks.old numbers.old)) p).sequencer }
-    ensures answer { result ≡ (pushed (push_kind_of kind) (engine_of (cells_of times.old levels.old marks.old numbers.old)) p).answer }
+    ensures engine { engine_of (after times.new levels.new marks.new numbers.new) ≡ (pushed (push_kind_of kind) (engine_of (before times.old levels.old marks.old numbers.old)) p).sequencer }
+    ensures answer { result ≡ (pushed (push_kind_of kind) (engine_of (before times.old levels.old marks.old numbers.old)) p).answer }
 {
     match kind {
         1 => live_apply::push(times, levels, marks, numbers, p),
@@ -84,9 +84,9 @@ fn push_record(
     numbers: &mut Numbers,
     bs: &[u8],
 ) -> u64
-    ensures engine { engine_of (cells_of times.new levels.new marks.new numbers.new)
-        ≡ (push_run engine_call 1 bs.now (engine_of (cells_of times.old levels.old marks.old numbers.old))).state }
-    ensures answer { result ≡ (push_run engine_call 1 bs.now (engine_of (cells_of times.old levels.old marks.old numbers.old))).ended }
+    ensures engine { engine_of (after times.new levels.new marks.new numbers.new)
+        ≡ (push_run engine_call 1 bs.now (engine_of (before times.old levels.old marks.old numbers.old))).state }
+    ensures answer { result ≡ (push_run engine_call 1 bs.now (engine_of (before times.old levels.old marks.old numbers.old))).ended }
 {
     let stop = stop_of(bs);
     if stop != 0 {
@@ -110,11 +110,11 @@ pub fn push_records(
     count: usize,
     given: &mut [u64],
 ) -> Batch
-    ensures engine { engine_of (cells_of times.new levels.new marks.new numbers.new)
-        ≡ (push_records (engine_of (cells_of times.old levels.old marks.old numbers.old)) records.now count given.old).state }
-    ensures answer { result ≡ batch_of (push_records (engine_of (cells_of times.old levels.old marks.old numbers.old)) records.now count given.old) }
+    ensures engine { engine_of (after times.new levels.new marks.new numbers.new)
+        ≡ (push_records (engine_of (before times.old levels.old marks.old numbers.old)) records.now count given.old).state }
+    ensures answer { result ≡ batch_of (push_records (engine_of (before times.old levels.old marks.old numbers.old)) records.now count given.old) }
     ensures given { given.new
-        ≡ numbers_after (engine_of (cells_of times.old levels.old marks.old numbers.old)) records.now count given.old }
+        ≡ numbers_after (engine_of (before times.old levels.old marks.old numbers.old)) records.now count given.old }
 {
     if beyond(count, given.len()) {
         return Batch {

@@ -1,6 +1,6 @@
 // Creation.
 ghost use Rattle.std.specs.Prelude.{◌≡◌, T};
-ghost use Rattle.memory.specs.Memory.{cells_of, engine_of};
+ghost use Rattle.memory.specs.Memory.{before, after, engine_of};
 ghost use Rattle.chakaqel.specs.Entries.{unknown_mode, create_entry};
 
 use crate::numbers::{code_of, mode_of};
@@ -18,10 +18,10 @@ pub extern "C" fn chakaqel_create(
     mode: u32,
     first: u64,
 ) -> u64
-    ensures engine { engine_of (cells_of times.new levels.new marks.new numbers.new)
-        ≡ (create_entry (engine_of (cells_of times.old levels.old marks.old numbers.old)) channels mode first).engine }
-    ensures answer { result ≡ (create_entry (engine_of (cells_of times.old levels.old marks.old numbers.old)) channels mode first).code }
-    ensures unknown { T (unknown_mode mode) → cells_of times.new levels.new marks.new numbers.new ≡ cells_of times.old levels.old marks.old numbers.old }
+    ensures engine { engine_of (after times.new levels.new marks.new numbers.new)
+        ≡ (create_entry (engine_of (before times.old levels.old marks.old numbers.old)) channels mode first).engine }
+    ensures answer { result ≡ (create_entry (engine_of (before times.old levels.old marks.old numbers.old)) channels mode first).code }
+    ensures unknown { T (unknown_mode mode) → after times.new levels.new marks.new numbers.new ≡ before times.old levels.old marks.old numbers.old }
 {
     if 1 < mode {
         return 14;

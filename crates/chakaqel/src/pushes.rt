@@ -1,7 +1,7 @@
 // Pushes.
 ghost use Rattle.std.specs.Prelude.{◌≡◌, T};
 ghost use Rattle.ledger.specs.Calls.{absolute, relative, by_duration};
-ghost use Rattle.memory.specs.Memory.{cells_of, engine_of};
+ghost use Rattle.memory.specs.Memory.{before, after, engine_of};
 ghost use Rattle.chakaqel.specs.Entries.{refusal, push_entry};
 
 use crate::numbers::{curve_of, source_of, tell_push, unknown_voice};
@@ -29,14 +29,14 @@ pub extern "C" fn chakaqel_push(
     length: u32,
     gain: f32,
 ) -> u64
-    ensures engine { engine_of (cells_of times.new levels.new marks.new numbers.new)
-        ≡ (push_entry absolute (engine_of (cells_of times.old levels.old marks.old numbers.old)) told.old
+    ensures engine { engine_of (after times.new levels.new marks.new numbers.new)
+        ≡ (push_entry absolute (engine_of (before times.old levels.old marks.old numbers.old)) told.old
         start_time end_time curve fade_in fade_out source a b offset length gain).engine }
-    ensures answer { result ≡ (push_entry absolute (engine_of (cells_of times.old levels.old marks.old numbers.old)) told.old
+    ensures answer { result ≡ (push_entry absolute (engine_of (before times.old levels.old marks.old numbers.old)) told.old
         start_time end_time curve fade_in fade_out source a b offset length gain).code }
-    ensures told { told.new ≡ (push_entry absolute (engine_of (cells_of times.old levels.old marks.old numbers.old)) told.old
+    ensures told { told.new ≡ (push_entry absolute (engine_of (before times.old levels.old marks.old numbers.old)) told.old
         start_time end_time curve fade_in fade_out source a b offset length gain).told }
-    ensures refused { T (refusal result) → cells_of times.new levels.new marks.new numbers.new ≡ cells_of times.old levels.old marks.old numbers.old }
+    ensures refused { T (refusal result) → after times.new levels.new marks.new numbers.new ≡ before times.old levels.old marks.old numbers.old }
 {
     if unknown_voice(curve, source) {
         return 14;
@@ -78,14 +78,14 @@ pub extern "C" fn chakaqel_push_relative(
     length: u32,
     gain: f32,
 ) -> u64
-    ensures engine { engine_of (cells_of times.new levels.new marks.new numbers.new)
-        ≡ (push_entry relative (engine_of (cells_of times.old levels.old marks.old numbers.old)) told.old
+    ensures engine { engine_of (after times.new levels.new marks.new numbers.new)
+        ≡ (push_entry relative (engine_of (before times.old levels.old marks.old numbers.old)) told.old
         start_time end_time curve fade_in fade_out source a b offset length gain).engine }
-    ensures answer { result ≡ (push_entry relative (engine_of (cells_of times.old levels.old marks.old numbers.old)) told.old
+    ensures answer { result ≡ (push_entry relative (engine_of (before times.old levels.old marks.old numbers.old)) told.old
         start_time end_time curve fade_in fade_out source a b offset length gain).code }
-    ensures told { told.new ≡ (push_entry relative (engine_of (cells_of times.old levels.old marks.old numbers.old)) told.old
+    ensures told { told.new ≡ (push_entry relative (engine_of (before times.old levels.old marks.old numbers.old)) told.old
         start_time end_time curve fade_in fade_out source a b offset length gain).told }
-    ensures refused { T (refusal result) → cells_of times.new levels.new marks.new numbers.new ≡ cells_of times.old levels.old marks.old numbers.old }
+    ensures refused { T (refusal result) → after times.new levels.new marks.new numbers.new ≡ before times.old levels.old marks.old numbers.old }
 {
     if unknown_voice(curve, source) {
         return 14;
@@ -127,14 +127,14 @@ pub extern "C" fn chakaqel_push_duration(
     length: u32,
     gain: f32,
 ) -> u64
-    ensures engine { engine_of (cells_of times.new levels.new marks.new numbers.new)
-        ≡ (push_entry by_duration (engine_of (cells_of times.old levels.old marks.old numbers.old)) told.old
+    ensures engine { engine_of (after times.new levels.new marks.new numbers.new)
+        ≡ (push_entry by_duration (engine_of (before times.old levels.old marks.old numbers.old)) told.old
         start_time duration curve fade_in fade_out source a b offset length gain).engine }
-    ensures answer { result ≡ (push_entry by_duration (engine_of (cells_of times.old levels.old marks.old numbers.old)) told.old
+    ensures answer { result ≡ (push_entry by_duration (engine_of (before times.old levels.old marks.old numbers.old)) told.old
         start_time duration curve fade_in fade_out source a b offset length gain).code }
-    ensures told { told.new ≡ (push_entry by_duration (engine_of (cells_of times.old levels.old marks.old numbers.old)) told.old
+    ensures told { told.new ≡ (push_entry by_duration (engine_of (before times.old levels.old marks.old numbers.old)) told.old
         start_time duration curve fade_in fade_out source a b offset length gain).told }
-    ensures refused { T (refusal result) → cells_of times.new levels.new marks.new numbers.new ≡ cells_of times.old levels.old marks.old numbers.old }
+    ensures refused { T (refusal result) → after times.new levels.new marks.new numbers.new ≡ before times.old levels.old marks.old numbers.old }
 {
     if unknown_voice(curve, source) {
         return 14;

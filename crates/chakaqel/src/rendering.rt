@@ -1,6 +1,6 @@
 // Ticks and blocks. Marks: 0 none; 1 is document 02's (Paper 9), which adds the sounding events from the list's end.
 ghost use Rattle.std.specs.Prelude.{◌≡◌, T};
-ghost use Rattle.memory.specs.Memory.{cells_of, engine_of};
+ghost use Rattle.memory.specs.Memory.{before, after, engine_of};
 ghost use Rattle.chakaqel.specs.Entries.{refusal, tick_entry, process_entry};
 
 use crate::numbers::{code_of, order_of, tell_block};
@@ -18,11 +18,11 @@ pub extern "C" fn chakaqel_tick(
     pool: &[f32],
     out: &mut [f32],
 ) -> u64
-    ensures engine { engine_of (cells_of times.new levels.new marks.new numbers.new)
-        ≡ (tick_entry (engine_of (cells_of times.old levels.old marks.old numbers.old)) mark pool.now out.old).engine }
-    ensures samples { out.new ≡ (tick_entry (engine_of (cells_of times.old levels.old marks.old numbers.old)) mark pool.now out.old).samples }
-    ensures answer { result ≡ (tick_entry (engine_of (cells_of times.old levels.old marks.old numbers.old)) mark pool.now out.old).code }
-    ensures refused { T (refusal result) → cells_of times.new levels.new marks.new numbers.new ≡ cells_of times.old levels.old marks.old numbers.old }
+    ensures engine { engine_of (after times.new levels.new marks.new numbers.new)
+        ≡ (tick_entry (engine_of (before times.old levels.old marks.old numbers.old)) mark pool.now out.old).engine }
+    ensures samples { out.new ≡ (tick_entry (engine_of (before times.old levels.old marks.old numbers.old)) mark pool.now out.old).samples }
+    ensures answer { result ≡ (tick_entry (engine_of (before times.old levels.old marks.old numbers.old)) mark pool.now out.old).code }
+    ensures refused { T (refusal result) → after times.new levels.new marks.new numbers.new ≡ before times.old levels.old marks.old numbers.old }
 {
     if 1 < mark {
         return 14;
@@ -46,16 +46,16 @@ pub extern "C" fn chakaqel_process(
     pool: &[f32],
     out: &mut [f32],
 ) -> u64
-    ensures engine { engine_of (cells_of times.new levels.new marks.new numbers.new)
-        ≡ (process_entry (engine_of (cells_of times.old levels.old marks.old numbers.old)) places.old mark size
+    ensures engine { engine_of (after times.new levels.new marks.new numbers.new)
+        ≡ (process_entry (engine_of (before times.old levels.old marks.old numbers.old)) places.old mark size
         pool.now out.old).engine }
-    ensures samples { out.new ≡ (process_entry (engine_of (cells_of times.old levels.old marks.old numbers.old)) places.old mark size
+    ensures samples { out.new ≡ (process_entry (engine_of (before times.old levels.old marks.old numbers.old)) places.old mark size
         pool.now out.old).samples }
-    ensures answer { result ≡ (process_entry (engine_of (cells_of times.old levels.old marks.old numbers.old)) places.old mark size
+    ensures answer { result ≡ (process_entry (engine_of (before times.old levels.old marks.old numbers.old)) places.old mark size
         pool.now out.old).code }
-    ensures places { places.new ≡ (process_entry (engine_of (cells_of times.old levels.old marks.old numbers.old)) places.old mark size
+    ensures places { places.new ≡ (process_entry (engine_of (before times.old levels.old marks.old numbers.old)) places.old mark size
         pool.now out.old).told }
-    ensures refused { T (refusal result) → cells_of times.new levels.new marks.new numbers.new ≡ cells_of times.old levels.old marks.old numbers.old }
+    ensures refused { T (refusal result) → after times.new levels.new marks.new numbers.new ≡ before times.old levels.old marks.old numbers.old }
 {
     if 1 < mark {
         return 14;

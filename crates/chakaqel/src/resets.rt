@@ -1,7 +1,7 @@
 // Reset, and a change of the rate.
 ghost use Rattle.std.specs.Prelude.{◌≡◌, T};
 ghost use Rattle.sequencer.specs.Resets.{resets, rates};
-ghost use Rattle.memory.specs.Memory.{cells_of, engine_of};
+ghost use Rattle.memory.specs.Memory.{before, after, engine_of};
 ghost use Rattle.chakaqel.specs.Entries.{code_of, refusal};
 
 use crate::numbers::code_of;
@@ -15,7 +15,7 @@ pub extern "C" fn chakaqel_reset(
     marks: &mut Marks,
     numbers: &mut Numbers,
 )
-    ensures { engine_of (cells_of times.new levels.new marks.new numbers.new) ≡ resets (engine_of (cells_of times.old levels.old marks.old numbers.old)) }
+    ensures { engine_of (after times.new levels.new marks.new numbers.new) ≡ resets (engine_of (before times.old levels.old marks.old numbers.old)) }
 {
     live::reset(times, levels, marks, numbers);
 }
@@ -29,9 +29,9 @@ pub extern "C" fn chakaqel_set_sample_rate(
     numbers: &mut Numbers,
     rate: f64,
 ) -> u64
-    ensures engine { engine_of (cells_of times.new levels.new marks.new numbers.new) ≡ (rates (engine_of (cells_of times.old levels.old marks.old numbers.old)) rate).sequencer }
-    ensures answer { result ≡ code_of (rates (engine_of (cells_of times.old levels.old marks.old numbers.old)) rate).answer }
-    ensures refused { T (refusal result) → cells_of times.new levels.new marks.new numbers.new ≡ cells_of times.old levels.old marks.old numbers.old }
+    ensures engine { engine_of (after times.new levels.new marks.new numbers.new) ≡ (rates (engine_of (before times.old levels.old marks.old numbers.old)) rate).sequencer }
+    ensures answer { result ≡ code_of (rates (engine_of (before times.old levels.old marks.old numbers.old)) rate).answer }
+    ensures refused { T (refusal result) → after times.new levels.new marks.new numbers.new ≡ before times.old levels.old marks.old numbers.old }
 {
     let answer = live::set_sample_rate(times, levels, marks, numbers, rate);
     code_of(answer)

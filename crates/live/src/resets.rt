@@ -2,7 +2,7 @@
 ghost use Rattle.std.specs.Prelude.{◌≡◌, ◌+◌, ◌%◌, ◌^◌, min, slice_set};
 ghost use Rattle.floats.specs.Arithmetic.{zeroᶠ, -∞};
 ghost use Rattle.sequencer.specs.Resets.{emptied_lists, resets, rates};
-ghost use Rattle.memory.specs.Memory.{cells_of, engine_of};
+ghost use Rattle.memory.specs.Memory.{before, after, engine_of};
 ghost use Rattle.live.specs.CallContracts.{Refuses, gone_all};
 
 use list_moves::{all_to_ready, rewind_ready};
@@ -16,8 +16,8 @@ use sequencer::Answer;
 
 // Every event is let go, and no edit remains.
 fn let_all_go(times: &Times, levels: &Levels, marks: &Marks, numbers: &mut Numbers)
-    ensures { engine_of (cells_of times.now levels.now marks.now numbers.new)
-        ≡ emptied_lists (engine_of (cells_of times.now levels.now marks.now numbers.old)) (gone_all (engine_of (cells_of times.now levels.now marks.now numbers.old))) }
+    ensures { engine_of (after times.now levels.now marks.now numbers.new)
+        ≡ emptied_lists (engine_of (before times.now levels.now marks.now numbers.old)) (gone_all (engine_of (before times.now levels.now marks.now numbers.old))) }
 {
     sized(times, levels, marks, numbers);
     let past = least(numbers[FINISHED] as usize, ROOM);
@@ -42,7 +42,7 @@ fn start_over(times: &mut Times)
 
 // All: everything waits again, from its beginning, and stored edits remain. None: everything is let go, and no edit remains.
 pub fn reset(times: &mut Times, levels: &mut Levels, marks: &mut Marks, numbers: &mut Numbers)
-    ensures { engine_of (cells_of times.new levels.new marks.new numbers.new) ≡ resets (engine_of (cells_of times.old levels.old marks.old numbers.old)) }
+    ensures { engine_of (after times.new levels.new marks.new numbers.new) ≡ resets (engine_of (before times.old levels.old marks.old numbers.old)) }
 {
     if numbers[MODE] == 0 {
         all_to_ready(times, levels, marks, numbers);
@@ -64,9 +64,9 @@ pub fn set_sample_rate(
     numbers: &mut Numbers,
     rate: f64,
 ) -> Answer
-    ensures engine { engine_of (cells_of times.new levels.new marks.new numbers.new) ≡ (rates (engine_of (cells_of times.old levels.old marks.old numbers.old)) rate).sequencer }
-    ensures answer { result ≡ (rates (engine_of (cells_of times.old levels.old marks.old numbers.old)) rate).answer }
-    ensures refused { Refuses result → cells_of times.new levels.new marks.new numbers.new ≡ cells_of times.old levels.old marks.old numbers.old }
+    ensures engine { engine_of (after times.new levels.new marks.new numbers.new) ≡ (rates (engine_of (before times.old levels.old marks.old numbers.old)) rate).sequencer }
+    ensures answer { result ≡ (rates (engine_of (before times.old levels.old marks.old numbers.old)) rate).answer }
+    ensures refused { Refuses result → after times.new levels.new marks.new numbers.new ≡ before times.old levels.old marks.old numbers.old }
 {
     let refusal = rate_refusal(rate);
     if refusal != 0 {

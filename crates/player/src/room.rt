@@ -1,6 +1,6 @@
 // The room that a record needs in the output, known before it is carried out.
 ghost use Rattle.std.specs.Prelude.{◌≡◌, List, ℕ, Float, length};
-ghost use Rattle.memory.specs.Memory.{cells_of, engine_of};
+ghost use Rattle.memory.specs.Memory.{before, engine_of};
 ghost use Rattle.apply.specs.Applying.{applied_to, applied_out};
 ghost use Rattle.record_output.specs.Lines.{room_for};
 ghost use Rattle.player.specs.Records.{left_by};
@@ -56,8 +56,8 @@ pub fn room_for(
     call: Call,
 ) -> usize
     ensures { (kind : ℕ) (pool samples : List Float) → length samples ≡ 512
-        → result ≡ room_for form (left_by form kind (applied_to pool (engine_of (cells_of times.now levels.now marks.now numbers.now)) call samples)
-        (applied_out pool (engine_of (cells_of times.now levels.now marks.now numbers.now)) call samples)) }
+        → result ≡ room_for form (left_by form kind (applied_to pool (engine_of (before times.now levels.now marks.now numbers.now)) call samples)
+        (applied_out pool (engine_of (before times.now levels.now marks.now numbers.now)) call samples)) }
 {
     match form {
         Form::Bytes => sound_bytes(
