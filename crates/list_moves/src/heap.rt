@@ -7,7 +7,7 @@ ghost use Rattle.ready.specs.Levels as Rises;
 ghost use Rattle.sequencer.specs.Parts.{with_ready};
 ghost use Rattle.sequencer.specs.Moves.{pushed_ready, popped_ready, pushed_event};
 ghost use Rattle.sequencer.specs.Rises.{rise_ready, rise_of};
-ghost use Rattle.memory.specs.Memory.{cells_of, engine_of};
+ghost use Rattle.memory.specs.Memory.{before, after, engine_of};
 
 use crate::active::append;
 use event::Event;
@@ -25,11 +25,11 @@ pub(crate) fn rise(
     event: Event,
 ) -> usize
     requires { from < 256 }
-    ensures engine { engine_of (cells_of times.new levels.new marks.new numbers.new)
-        ≡ with_ready (engine_of (cells_of times.old levels.old marks.old numbers.old))
-        (Sift.rise earlier blank from (engine_of (cells_of times.old levels.old marks.old numbers.old)).ready from event)
-        (engine_of (cells_of times.old levels.old marks.old numbers.old)).ready_len }
-    ensures passed { result ≡ Rises.levels earlier blank from (engine_of (cells_of times.old levels.old marks.old numbers.old)).ready from event }
+    ensures engine { engine_of (after times levels marks numbers)
+        ≡ with_ready (engine_of (before times levels marks numbers))
+        (Sift.rise earlier blank from (engine_of (before times levels marks numbers)).ready from event)
+        (engine_of (before times levels marks numbers)).ready_len }
+    ensures passed { result ≡ Rises.levels earlier blank from (engine_of (before times levels marks numbers)).ready from event }
 {
     sized(times, levels, marks, numbers);
     let mut passed: usize = 0;
@@ -56,8 +56,8 @@ pub(crate) fn wait(
     numbers: &mut Numbers,
     event: Event,
 ) -> usize
-    ensures engine { engine_of (cells_of times.new levels.new marks.new numbers.new) ≡ pushed_ready (engine_of (cells_of times.old levels.old marks.old numbers.old)) event }
-    ensures rise { result ≡ rise_ready (engine_of (cells_of times.old levels.old marks.old numbers.old)) event }
+    ensures engine { engine_of (after times levels marks numbers) ≡ pushed_ready (engine_of (before times levels marks numbers)) event }
+    ensures rise { result ≡ rise_ready (engine_of (before times levels marks numbers)) event }
 {
     let n = numbers[WAITING] as usize;
     if n < ROOM {
@@ -78,8 +78,8 @@ pub fn push_event(
     numbers: &mut Numbers,
     event: Event,
 ) -> usize
-    ensures engine { engine_of (cells_of times.new levels.new marks.new numbers.new) ≡ pushed_event (engine_of (cells_of times.old levels.old marks.old numbers.old)) event }
-    ensures rise { result ≡ rise_of (engine_of (cells_of times.old levels.old marks.old numbers.old)) event }
+    ensures engine { engine_of (after times levels marks numbers) ≡ pushed_event (engine_of (before times levels marks numbers)) event }
+    ensures rise { result ≡ rise_of (engine_of (before times levels marks numbers)) event }
 {
     if event.start_time < times[THRESHOLD] {
         append(times, levels, marks, numbers, event);
@@ -98,7 +98,7 @@ fn child(
     m: usize,
 ) -> usize
     requires { (2 * i + 1 < m) × (m < 256) }
-    ensures { (Sift.child earlier blank (engine_of (cells_of times.now levels.now marks.now numbers.now)).ready m i ≡ result) × (i < result) × (result < m) }
+    ensures { (Sift.child earlier blank (engine_of (before times levels marks numbers)).ready m i ≡ result) × (i < result) × (result < m) }
 {
     if m <= 2 * i + 2 {
         return 2 * i + 1;
@@ -113,7 +113,7 @@ fn child(
 
 // The first leaves: its place is filled from below, and from where that ends the last goes up, past every one that it precedes.
 pub(crate) fn pop(times: &mut Times, levels: &mut Levels, marks: &mut Marks, numbers: &mut Numbers)
-    ensures { engine_of (cells_of times.new levels.new marks.new numbers.new) ≡ popped_ready (engine_of (cells_of times.old levels.old marks.old numbers.old)) }
+    ensures { engine_of (after times levels marks numbers) ≡ popped_ready (engine_of (before times levels marks numbers)) }
 {
     let n = numbers[WAITING] as usize;
     if n == 0 {
