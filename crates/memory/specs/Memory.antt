@@ -1,5 +1,7 @@
 -- The engine in four arrays of numbers: which engine they hold. Every array of numbers holds one.
 use Rattle.std.specs.Prelude.{Bool, true, false, ◌&&◌, cond, List, ℕ, ◌+◌, ◌*◌, ◌%◌, eqb, leb, ltb, Float, get_or, set}
+use Rattle.std.specs.Borrow.{Bor}
+use denote.Triple.Both.{Both}
 use Rattle.std.specs.Float.{nan}
 use Rattle.event.specs.declared.Event.{Event}
 use Rattle.event.specs.declared.EventId.{EventId}
@@ -24,6 +26,16 @@ pub record Cells : Type 0 where
 
 abbrev pub cells_of : List Float → List Float → List ℕ → List ℕ → Cells
 cells_of t l m n = record { times = t; levels = l; marks = m; numbers = n }
+
+-- four lent arrays, at a call's entry and at its exit
+abbrev pub Lent : Type 0 → Type 0
+Lent A = Both (Bor (List A)) (Bor (List A))
+
+abbrev pub before : (times levels : Lent Float) → (marks numbers : Lent ℕ) → Cells
+before t l m n = cells_of t.entry.now l.entry.now m.entry.now n.entry.now
+
+abbrev pub after : (times levels : Lent Float) → (marks numbers : Lent ℕ) → Cells
+after t l m n = cells_of t.exit.now l.exit.now m.exit.now n.exit.now
 
 -- ---- a slot
 

@@ -1,6 +1,6 @@
 // The arrays' lengths, for proofs: a slice of an array tells its length. No code is made of it.
 ghost use Rattle.std.specs.Prelude.{◌≡◌, length};
-ghost use Rattle.memory.specs.Memory.{cells_of};
+ghost use Rattle.memory.specs.Memory.{before};
 ghost use Rattle.memory.specs.Laws.{Sized};
 
 use crate::{Levels, Marks, Numbers, Times};
@@ -55,7 +55,7 @@ fn sized_numbers(l: &Numbers)
 
 // Tells a proof how long the four arrays are.
 pub fn sized(times: &Times, levels: &Levels, marks: &Marks, numbers: &Numbers)
-    ensures { Sized (cells_of times.now levels.now marks.now numbers.now) }
+    ensures { Sized (before times levels marks numbers) }
 {
     sized_times(times);
     sized_levels(levels);

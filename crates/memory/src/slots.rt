@@ -1,7 +1,7 @@
 // An event's slot: read, written, and copied.
 ghost use Rattle.std.specs.Prelude.{◌≡◌, ◌+◌, ◌<◌};
 ghost use Rattle.memory.specs.Rows.{set4};
-ghost use Rattle.memory.specs.Memory.{cells_of, ease_if, ease_mark, source_in, source_marks, event_at, slot_of};
+ghost use Rattle.memory.specs.Memory.{before, after, ease_if, ease_mark, source_in, source_marks, event_at, slot_of};
 ghost use Rattle.memory.specs.Memory.{stored, stored_in, copied, copied_in, unit_in};
 
 use crate::{Levels, Marks, Numbers, SLOTS, Times};
@@ -45,7 +45,7 @@ pub fn event_at(
     numbers: &Numbers,
     slot: usize,
 ) -> Event
-    ensures { result ≡ event_at (cells_of times.now levels.now marks.now numbers.now) (slot_of slot) }
+    ensures { result ≡ event_at (before times levels marks numbers) (slot_of slot) }
 {
     let k = slot_of(slot);
     let i = 4 * k;
@@ -166,7 +166,7 @@ fn store(
     e: Event,
 )
     requires { k < 768 }
-    ensures { cells_of times.new levels.new marks.new numbers.new ≡ stored (cells_of times.old levels.old marks.old numbers.old) k e }
+    ensures { after times levels marks numbers ≡ stored (before times levels marks numbers) k e }
 {
     let i = 4 * k;
     let ease = e.fade_ease;
@@ -189,7 +189,7 @@ pub fn put_event(
     slot: usize,
     event: Event,
 )
-    ensures { cells_of times.new levels.new marks.new numbers.new ≡ stored_in (cells_of times.old levels.old marks.old numbers.old) slot event }
+    ensures { after times levels marks numbers ≡ stored_in (before times levels marks numbers) slot event }
 {
     if slot < SLOTS {
         store(times, levels, marks, numbers, slot, event);
@@ -205,7 +205,7 @@ pub fn put_unit(
     slot: usize,
     unit: Unit,
 )
-    ensures { cells_of times.now levels.new marks.new numbers.now ≡ unit_in (cells_of times.now levels.old marks.old numbers.now) slot unit }
+    ensures { after times levels marks numbers ≡ unit_in (before times levels marks numbers) slot unit }
 {
     if slot < SLOTS {
         levels[4 * slot + 1] = unit.value;
@@ -224,7 +224,7 @@ fn copy(
     from: usize,
 )
     requires { (to < 768) × (from < 768) }
-    ensures { cells_of times.new levels.new marks.new numbers.new ≡ copied (cells_of times.old levels.old marks.old numbers.old) to from }
+    ensures { after times levels marks numbers ≡ copied (before times levels marks numbers) to from }
 {
     let i = 4 * to;
     let j = 4 * from;
@@ -255,7 +255,7 @@ pub fn copy_slot(
     to: usize,
     from: usize,
 )
-    ensures { cells_of times.new levels.new marks.new numbers.new ≡ copied_in (cells_of times.old levels.old marks.old numbers.old) to from }
+    ensures { after times levels marks numbers ≡ copied_in (before times levels marks numbers) to from }
 {
     if SLOTS <= to {
         return;
