@@ -13,5 +13,4 @@ returns-then-out-ne256 c = no_slice _ _ _ _ c.if-out-ne256.true
 
 pub returns : goal.returns
 returns c =
-    let d = c.before.before.before.before in
-    all_well _ _ _ _ (not-false _ d.if-not-from-to.false-raw) d.if-out-ne256.false _ _ d.list_clips-count.ensures.counted d.list_clips-count.ensures.listed
+    all_well _ _ _ _ (not-false _ c.if-not-from-to.false-raw) c.if-out-ne256.false _ _ c.list_clips-count.ensures.counted c.list_clips-count.ensures.listed

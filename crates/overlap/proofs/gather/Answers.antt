@@ -57,16 +57,15 @@ overflow_add-held c = omega (arith, c.least-waiting.ensures, c.least.ensures, c.
 
 pub loop-i-init : goal.loop-i-init
 loop-i-init c =
-    let s = c.before.before.before.before.before.before.before.before in
-    let a = s.args in
+    let a = c.args in
     let waiting = c.least-waiting.ensures in
     let sounding = c.least.ensures in
     let finished = c.least-2.ensures in (
       ends_read (cells_of a.times.now a.levels.now a.marks.now a.numbers.now) _ _ _ waiting sounding finished,
       omega (arith, waiting, sounding, finished),
       omega arith,
-      s.requires.0,
-      s.requires.1,
+      c.requires.fact_1,
+      c.requires.fact_2,
       gathering_start _ _ _,
     )
 
@@ -75,7 +74,7 @@ held_event-event-requires c =
     let a = c.args in
     let e = c.loop-i.invariant.0 in
     let r = asked-at (cells_of a.times.now a.levels.now a.marks.now a.numbers.now) _ _ _ _ e c.loop-i-test.true in
-    (e.waiting, (r.0, r.1))
+    record { fact_1 = e.waiting; fact_2 = r.0; fact_3 = r.1 }
 
 pub loop-i-smaller : goal.loop-i-smaller
 loop-i-smaller c = closer _ _ c.loop-i-test.true

@@ -13,7 +13,7 @@ use Rattle.overlap.proofs.Sifting.{up_on, up_root, up_stop}
 use Rattle.overlap.proofs.sift_up.Goals as goal
 
 pub loop-i-init : goal.loop-i-init
-loop-i-init c = (search rules, refl, c.requires.1, refl, record { fuel = c.args.n; enough = omega arith; gives = refl })
+loop-i-init c = (search rules, refl, c.requires.fact_2, refl, record { fuel = c.args.n; enough = omega arith; gives = refl })
 
 pub loop-i-preserved : goal.loop-i-preserved
 loop-i-preserved c =
