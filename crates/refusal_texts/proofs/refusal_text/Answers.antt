@@ -1,5 +1,6 @@
 use Prim.Native.Nat.{◌≤◌}
 use mathlib.Core.Path.{ap}
+use native.Mathlib.Omega.{arith}
 use Rattle.refusal_texts.specs.Texts.{text_of, texts}
 use Rattle.refusal_texts.proofs.Wording.{worded, above, none}
 use borrow.Author.Rules.{rules}
@@ -128,5 +129,5 @@ returns-in-24 c =
 pub returns-in_default : goal.returns-in_default
 returns-in_default c =
     let n = c.args.number in
-    let h : 1 ≤ n → 25 ≤ n = ? in
+    let h : 1 ≤ n → 25 ≤ n = λ l. omega arith in
     worded _ (none _ h) c.put_bytes-in_default.ensures
