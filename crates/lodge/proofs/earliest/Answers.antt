@@ -1,6 +1,6 @@
 use mathlib.Core.Path.{sym, ◌∙◌}
 use native.Mathlib.Omega.{arith}
-use Rattle.lodge.specs.Theorem.{too_many, too_late_lem, no_length, unordered, searching, this_week_lem, next_week_lem, no_week, found_inside}
+use Rattle.lodge.proofs.Theorem.{too_many, too_late_lem, no_length, unordered, searching, this_week_lem, next_week_lem, no_week, found_inside}
 use borrow.Author.Rules.{rules}
 use Rattle.lodge.proofs.earliest.Goals as goal
 

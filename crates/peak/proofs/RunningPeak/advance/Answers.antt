@@ -1,7 +1,7 @@
 use mathlib.Core.Path.{sym, ap, ◌∙◌}
 use native.Mathlib.Omega.{arith}
 use lib.ListN.{length, length-set}
-use Rattle.peak.specs.Turns.{inside, room, last, goes_on, turns, length-suffix_maxima_to}
+use Rattle.peak.proofs.Turns.{inside, room, last, goes_on, turns, length-suffix_maxima_to}
 use borrow.Author.Rules.{rules}
 use Rattle.peak.proofs.RunningPeak.advance.Goals as goal
 

@@ -1,5 +1,5 @@
 use mathlib.Core.Path.{sym, ◌∙◌}
-use Rattle.peak.specs.Turns.{taken, left_alone}
+use Rattle.peak.proofs.Turns.{taken, left_alone}
 use borrow.Author.Rules.{rules}
 use Rattle.peak.proofs.RunningPeak.feed.Goals as goal
 

@@ -14,7 +14,7 @@ use Rattle.peak.specs.declared.Reading.TheVariants.{Peak}
 use Rattle.peak.specs.Peaks.{magnitude, greatest, last_of, Feed, one, run, history, peak_of}
 use Rattle.peak.specs.Steps.{State, state, empty, suffix_maxima, suffix_maxima_to, created, serves, refusal, advanced, fed, fed_all, older, reading}
 use Rattle.peak.specs.Claim.{step, Claim}
-use Rattle.peak.specs.Turns.{too_small, too_large, too_few, in-limits, narrow, enough, last, goes_on, turns, length-suffix_maxima, length-suffix_maxima_to}
+use Rattle.peak.proofs.Turns.{too_small, too_large, too_few, in-limits, narrow, enough, last, goes_on, turns, length-suffix_maxima, length-suffix_maxima_to}
 
 -- ---- lists
 greatest-append : (a b : List ℕ) → greatest (a ++ b) ≡ max (greatest a) (greatest b)
