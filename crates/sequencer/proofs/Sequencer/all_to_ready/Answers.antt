@@ -11,8 +11,8 @@ taken c =
     let i = c.loop-i.i in
     let p = c.least-past.result in
     elim c.if-i-past.branch [
-      then-i-past w ↦ w.event-is ∙ rw (lt-ltb i p w.if-i-past.true)
-    | else-i-past w ↦ w.event-is ∙ rw (le-ltb i p w.if-i-past.false)
+      | then-i-past w ↦ w.event-is ∙ rw (lt-ltb i p w.if-i-past.true)
+      | else-i-past w ↦ w.event-is ∙ rw (le-ltb i p w.if-i-past.false)
     ]
 
 pub overflow_add-n : goal.overflow_add-n
