@@ -25,7 +25,7 @@ returns c =
     let l = c.loop-i in
     let here = cells_of l.times l.levels l.marks l.numbers in
     elim c.loop-i-test.branch [
-      else-loop-i-test w ↦ let r = rises_root _ _ _ _ _ here l.invariant _ c.put_event.ensures w.loop-i-test.false in record { engine = r.0; passed = r.1 }
+      | else-loop-i-test w ↦ let r = rises_root _ _ _ _ _ here l.invariant _ c.put_event.ensures w.loop-i-test.false in record { engine = r.0; passed = r.1 }
       | then-loop-i-test+then-not-precedes w ↦
           let soon = ap (earlier c.args.event) (sym (w.event_at-parent.ensures ∙ waits-read here (parent l.i) blank (omega (arith, l.invariant.3)))) ∙ sym w.precedes.ensures ∙ w.if-not-precedes.true in
           let r = rises_stop _ _ _ _ _ here l.invariant _ c.put_event.ensures w.loop-i-test.true soon in record { engine = r.0; passed = r.1 }
