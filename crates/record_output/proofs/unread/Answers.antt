@@ -22,10 +22,9 @@ returns-in-Bytes c =
 
 pub returns-in-Lines : goal.returns-in-Lines
 returns-in-Lines c =
-    let c₁ = c.before in
-    let a = c₁.args in
-    let r = unread_lines a.form a.counts a.out.now a.at c₁.in-Refused.is c.in-Lines.is
-    (ap (λ (k : ℕ). ltb k (room_for a.form [])) (sym c₁.room_at.ensures) ∙ sym c.is_full.ensures ∙ c.if-is_full.false)
+    let a = c.args in
+    let r = unread_lines a.form a.counts a.out.now a.at c.in-Refused.is c.in-Lines.is
+    (ap (λ (k : ℕ). ltb k (room_for a.form [])) (sym c.room_at.ensures) ∙ sym c.is_full.ensures ∙ c.if-is_full.false)
     (record_line_most _ _ a.counts.waiting a.counts.sounding a.counts.finished a.counts.let_go (search rules) (search rules) (search rules) (search rules) (search rules)) c.put_counts-to.ensures in record { pause_value = r.0; used_after = r.1.0; gives = r.1.1 }
 
 pub returns-in-Record : goal.returns-in-Record

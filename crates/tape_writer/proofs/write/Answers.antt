@@ -23,7 +23,7 @@ pub returns-then-buf-at-2 : goal.returns-then-buf-at-2
 returns-then-buf-at-2 c =
     let n = c.before in
     let a = n.args in
-    let k : length a.buf.now - a.at < _ = subst (λ (m : ℕ). length a.buf.now - a.at < m) n.type_size.ensures c.if-buf-at-2.true in
+    let k : length a.buf.now - a.at < _ = subst (λ (m : ℕ). length a.buf.now - a.at < m) n.size_of-n.ensures c.if-buf-at-2.true in
     let r = refused-19 _ _ _ (sym n.is_undefined.ensures ∙ n.if-is_undefined.false) (short_rest _ _ _ c.if-buf-at.false k) in
     record { answer = sym r.0; lent = sym r.1 }
 
@@ -40,6 +40,6 @@ returns c =
     let long = long_as a.kind a (kind_known a.kind a known) in
     let k = c.if-buf-at-2.false in
     let h = c.if-buf-at.false in
-    let r = accepted a buf at known (enough_rest _ _ _ h (subst (λ (m : ℕ). m ≤ length buf - at) n.type_size.ensures k)) in
-    let bytes = fields_laid buf _ _ (bytes_of a) _ at n.type_size.result (omega (arith, k, h)) c.parts_of-p.ensures (long ∙ sym n.type_size.ensures) c.put_fields.ensures.lent in
-    record { answer = ap (λ (m : ℕ). Next (at + m)) n.type_size.ensures ∙ sym r.0; lent = bytes ∙ sym r.1 }
+    let r = accepted a buf at known (enough_rest _ _ _ h (subst (λ (m : ℕ). m ≤ length buf - at) n.size_of-n.ensures k)) in
+    let bytes = fields_laid buf _ _ (bytes_of a) _ at n.size_of-n.result (omega (arith, k, h)) c.parts_of-p.ensures (long ∙ sym n.size_of-n.ensures) c.put_fields.ensures.lent in
+    record { answer = ap (λ (m : ℕ). Next (at + m)) n.size_of-n.ensures ∙ sym r.0; lent = bytes ∙ sym r.1 }

@@ -24,4 +24,4 @@ pub overflow_mul-result-2 : goal.overflow_mul-result-2
 overflow_mul-result-2 c = let p = product-fits _ _ _ c.if-out-each.false in record { fits = omega arith }
 
 pub returns : goal.returns
-returns c = let r = all-put _ _ _ _ _ c.if-each-eq0.false c.if-stride-each.false c.if-samples-stride.false c.if-out-each.false _ c.put_all_lem.ensures in record { count = r.0; lent = r.1 }
+returns c = let r = all-put _ _ _ _ _ c.if-each-eq0.false c.if-stride-each.false c.if-samples-stride.false c.if-out-each.false _ c.put_all.ensures in record { count = r.0; lent = r.1 }
