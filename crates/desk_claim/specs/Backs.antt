@@ -28,7 +28,8 @@ use Rattle.claim.specs.EngineCalls as EngineClaim
 use Rattle.claim.specs.Steps as Claim
 use Rattle.desk.specs.Desk as Plain
 use Rattle.desk.specs.Desk.{tick, block, rate, reset, back, Reply, done, rendered, Desk, with_back, send_finished, desk_refusal, acts, carried_out, decide, step}
-use Rattle.desk.specs.Lawful.{DeskLawful, accept_lawful, drained_lawful, drained-empty, drained_free}
+use Rattle.desk.specs.Lawful.{DeskLawful}
+use Rattle.desk.proofs.Lawful.{accept_lawful, drained_lawful, drained-empty, drained_free}
 use Rattle.realseq.specs.declared.SequencerBackend.{SequencerBackend}
 use Rattle.realseq.specs.Handling as Handling
 use Rattle.realseq.specs.Handling.{past_sent_by, past_sent, drained}

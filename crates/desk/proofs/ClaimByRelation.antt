@@ -20,8 +20,9 @@ use Rattle.ledger.specs.Lawful.{Lawful}
 use Rattle.desk.specs.Desk.{Message, push, edit, reset, Call, Reply, Desk, pushes_in, next_number, opened, step, run}
 use Rattle.desk.specs.Claim.{DeskView, DeskEngine, calls, engine_after, sent_from, sent_numbers, accepted, DeskClaim}
 use Rattle.desk.specs.Lawful.{DeskLawful}
-use Rattle.desk.specs.LawfulCalls.{opened_lawful, step_lawful}
-use Rattle.desk.specs.Partition.{queued_numbers, DeskPartition, length-up_from, times-sum, desk-partition}
+use Rattle.desk.proofs.LawfulCalls.{opened_lawful, step_lawful}
+use Rattle.desk.specs.Partition.{queued_numbers, DeskPartition}
+use Rattle.desk.proofs.Partition.{length-up_from, times-sum, desk-partition}
 
 -- ---- the numbers of queued pushes
 
