@@ -39,7 +39,7 @@ pub shape_of-out-in_default : goal.shape_of-out-in_default
 shape_of-out-in_default c =
     let w = c.loop-form.invariant in
     let l = c.loop-form in
-    let r = c.read.result in
+    let r = c.read-r.result in
     let f = c.args.form in
     same_sets _ _ _ _ _ _ _ w (ending f r c.counts-counts.result (length l.out - l.at)).written (c.unread-stop.ensures.gives (inside _ _ _ _ _ _ _ w)).1.1.0
 
@@ -48,8 +48,8 @@ returns-in_default c =
     let w = c.loop-form.invariant in
     let i = c.is_short.ensures in
     let j = c.if-is_short.false in
-    let r = c.read in
-    let m = c.match.keys2 in
+    let r = c.read-r in
+    let m = c.in_default.in_default-own.keys2 in
     let z = answered _ _ _ _ _ _ _ w c.stopped-in_default.ensures
     (ends_unread _ _ _ _ _ _ _ w (sym i ∙ j) r.result r.ensures (not-record r.result m) c.counts-counts.ensures (c.unread-stop.ensures.gives (inside _ _ _ _ _ _ _ w))) in
     record { engine = z.0; answer = z.1.0; lent = z.1.1 }
@@ -65,7 +65,7 @@ returns-then-out-at c =
     let w = c.loop-form.invariant in
     let i = c.is_short.ensures in
     let j = c.if-is_short.false in
-    let r = c.read.ensures in
+    let r = c.read-r.ensures in
     let v = c.in-Record in
     let z = answered _ _ _ _ _ _ _ w c.stopped-then-out-at.ensures
     (ends-full _ _ _ _ _ _ _ w (sym i ∙ j) v.kind v.call v.next (sym r ∙ v.is) (c.room_for.ensures v.kind _ _ w.long) c.if-out-at.true) in
@@ -79,7 +79,7 @@ shape_of-out-then-done-eq1 c =
     let w = c.loop-form.invariant in
     let i = c.is_short.ensures in
     let j = c.if-is_short.false in
-    let r = c.read.ensures in
+    let r = c.read-r.ensures in
     let v = c.in-Record in
     let n = c.room_for.ensures in
     let k = c.if-out-at.false in
@@ -90,7 +90,7 @@ returns-then-done-eq1 c =
     let w = c.loop-form.invariant in
     let i = c.is_short.ensures in
     let j = c.if-is_short.false in
-    let r = c.read.ensures in
+    let r = c.read-r.ensures in
     let v = c.in-Record in
     let n = c.room_for.ensures in
     let k = c.if-out-at.false in
@@ -101,7 +101,7 @@ returns-then-done-eq1 c =
 
 pub loop-form-smaller : goal.loop-form-smaller
 loop-form-smaller c =
-    let r = c.read.ensures in
+    let r = c.read-r.ensures in
     let v = c.in-Record in
     let m = moves _ _ v.kind v.call v.next (sym r ∙ v.is) in
     let x = m.0 in
@@ -113,7 +113,7 @@ loop-form-preserved c =
     let w = c.loop-form.invariant in
     let i = c.is_short.ensures in
     let j = c.if-is_short.false in
-    let r = c.read.ensures in
+    let r = c.read-r.ensures in
     let v = c.in-Record in
     let n = c.room_for.ensures in
     let k = c.if-out-at.false in

@@ -44,4 +44,4 @@ returns-in-Process c =
 pub returns-in_default : goal.returns-in_default
 returns-in_default c =
     let a = c.args in
-    silent-call a.call a.outputs a.time a.duration c.in_default.keys3
+    silent-call a.call a.outputs a.time a.duration c.in_default.in_default-own.keys3
