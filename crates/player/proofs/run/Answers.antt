@@ -1,25 +1,21 @@
 -- `player::run` meets its contract: the loop's invariant is `Rolling`, of which each way out cites one lemma.
-use borrow.Author.Rules.{rules}
 use mathlib.Core.Path.{◌≡◌, refl, sym, ◌∙◌}
 use mathlib.Core.Bool.{false}
-use mathlib.Core.Logic.{⊎_elim}
-use mathlib.Core.List.{[], ◌∷◌}
-use Prim.Native.Nat.{◌-◌}
+use Prim.Native.Nat.{ℕ, ◌-◌}
 use native.Mathlib.Omega.{arith}
 use lib.ListN.{length}
-use denote.Enum.Declared.{tag_of}
-use types.Run.{OneOf}
+use Rattle.tape.specs.declared.reader.Call.{Call}
+use Rattle.tape.specs.declared.reader.Cursor.{Cursor}
 use Rattle.tape.specs.declared.reader.Read.{Read}
 use Rattle.tape.specs.declared.reader.Read.TheVariants.{Record, Refused, End}
-use Rattle.tape.specs.contracts.reader.Read.{the_type}
 use Rattle.tape.specs.Cursors.{is_record, moves}
 use Rattle.record_output.specs.Endings.{ending}
 use Rattle.memory.specs.Memory.{cells_of, engine_of}
 use Rattle.player.proofs.Rolling.{Rolling, start, answered, inside, same_rest, same_sets, same-put, ends-short, ends_unread, ends-full, ends-refused, goes_on}
 use Rattle.player.proofs.run.Goals as goal
 
-not-record : (r : Read) → OneOf (1 ∷ 2 ∷ []) (tag_of the_type r) → is_record r ≡ false
-not-record (Record k call next) h = absurd (⊎_elim (λ z. omega arith) (λ z. omega arith) h)
+not-record : (r : Read) → ((k : ℕ) (call : Call) (next : Cursor) → r ≡ Record k call next → ⊥) → is_record r ≡ false
+not-record (Record k call next) h = absurd (h k call next refl)
 not-record (Refused k n) h = refl
 not-record End h = refl
 
@@ -49,9 +45,8 @@ returns-in_default c =
     let i = c.is_short.ensures in
     let j = c.if-is_short.false in
     let r = c.read-r in
-    let m = c.in_default.in_default-own.keys2 in
     let z = answered _ _ _ _ _ _ _ w c.stopped-in_default.ensures
-    (ends_unread _ _ _ _ _ _ _ w (sym i ∙ j) r.result r.ensures (not-record r.result m) c.counts-counts.ensures (c.unread-stop.ensures.gives (inside _ _ _ _ _ _ _ w))) in
+    (ends_unread _ _ _ _ _ _ _ w (sym i ∙ j) r.result r.ensures (not-record r.result c.in_default.not-Record) c.counts-counts.ensures (c.unread-stop.ensures.gives (inside _ _ _ _ _ _ _ w))) in
     record { engine = z.0; answer = z.1.0; lent = z.1.1 }
 
 pub overflow_sub-out : goal.overflow_sub-out
