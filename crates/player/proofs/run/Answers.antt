@@ -1,25 +1,21 @@
 -- `player::run` meets its contract: the loop's invariant is `Rolling`, of which each way out cites one lemma.
-use borrow.Author.Rules.{rules}
 use mathlib.Core.Path.{◌≡◌, refl, sym, ◌∙◌}
 use mathlib.Core.Bool.{false}
-use mathlib.Core.Logic.{⊎_elim}
-use mathlib.Core.List.{[], ◌∷◌}
-use Prim.Native.Nat.{◌-◌}
+use Prim.Native.Nat.{ℕ, ◌-◌}
 use native.Mathlib.Omega.{arith}
 use lib.ListN.{length}
-use denote.Enum.Declared.{tag_of}
-use types.Run.{OneOf}
+use Rattle.tape.specs.declared.reader.Call.{Call}
+use Rattle.tape.specs.declared.reader.Cursor.{Cursor}
 use Rattle.tape.specs.declared.reader.Read.{Read}
 use Rattle.tape.specs.declared.reader.Read.TheVariants.{Record, Refused, End}
-use Rattle.tape.specs.contracts.reader.Read.{the_type}
 use Rattle.tape.specs.Cursors.{is_record, moves}
 use Rattle.record_output.specs.Endings.{ending}
 use Rattle.memory.specs.Memory.{cells_of, engine_of}
 use Rattle.player.proofs.Rolling.{Rolling, start, answered, inside, same_rest, same_sets, same-put, ends-short, ends_unread, ends-full, ends-refused, goes_on}
 use Rattle.player.proofs.run.Goals as goal
 
-not-record : (r : Read) → OneOf (1 ∷ 2 ∷ []) (tag_of the_type r) → is_record r ≡ false
-not-record (Record k call next) h = absurd (⊎_elim (λ z. omega arith) (λ z. omega arith) h)
+not-record : (r : Read) → ((k : ℕ) (call : Call) (next : Cursor) → r ≡ Record k call next → ⊥) → is_record r ≡ false
+not-record (Record k call next) h = absurd (h k call next refl)
 not-record (Refused k n) h = refl
 not-record End h = refl
 
@@ -39,7 +35,7 @@ pub shape_of-out-in_default : goal.shape_of-out-in_default
 shape_of-out-in_default c =
     let w = c.loop-form.invariant in
     let l = c.loop-form in
-    let r = c.read.result in
+    let r = c.read-r.result in
     let f = c.args.form in
     same_sets _ _ _ _ _ _ _ w (ending f r c.counts-counts.result (length l.out - l.at)).written (c.unread-stop.ensures.gives (inside _ _ _ _ _ _ _ w)).1.1.0
 
@@ -48,10 +44,9 @@ returns-in_default c =
     let w = c.loop-form.invariant in
     let i = c.is_short.ensures in
     let j = c.if-is_short.false in
-    let r = c.read in
-    let m = c.match.keys2 in
+    let r = c.read-r in
     let z = answered _ _ _ _ _ _ _ w c.stopped-in_default.ensures
-    (ends_unread _ _ _ _ _ _ _ w (sym i ∙ j) r.result r.ensures (not-record r.result m) c.counts-counts.ensures (c.unread-stop.ensures.gives (inside _ _ _ _ _ _ _ w))) in
+    (ends_unread _ _ _ _ _ _ _ w (sym i ∙ j) r.result r.ensures (not-record r.result c.in_default.not-Record) c.counts-counts.ensures (c.unread-stop.ensures.gives (inside _ _ _ _ _ _ _ w))) in
     record { engine = z.0; answer = z.1.0; lent = z.1.1 }
 
 pub overflow_sub-out : goal.overflow_sub-out
@@ -65,7 +60,7 @@ returns-then-out-at c =
     let w = c.loop-form.invariant in
     let i = c.is_short.ensures in
     let j = c.if-is_short.false in
-    let r = c.read.ensures in
+    let r = c.read-r.ensures in
     let v = c.in-Record in
     let z = answered _ _ _ _ _ _ _ w c.stopped-then-out-at.ensures
     (ends-full _ _ _ _ _ _ _ w (sym i ∙ j) v.kind v.call v.next (sym r ∙ v.is) (c.room_for.ensures v.kind _ _ w.long) c.if-out-at.true) in
@@ -79,7 +74,7 @@ shape_of-out-then-done-eq1 c =
     let w = c.loop-form.invariant in
     let i = c.is_short.ensures in
     let j = c.if-is_short.false in
-    let r = c.read.ensures in
+    let r = c.read-r.ensures in
     let v = c.in-Record in
     let n = c.room_for.ensures in
     let k = c.if-out-at.false in
@@ -90,7 +85,7 @@ returns-then-done-eq1 c =
     let w = c.loop-form.invariant in
     let i = c.is_short.ensures in
     let j = c.if-is_short.false in
-    let r = c.read.ensures in
+    let r = c.read-r.ensures in
     let v = c.in-Record in
     let n = c.room_for.ensures in
     let k = c.if-out-at.false in
@@ -101,7 +96,7 @@ returns-then-done-eq1 c =
 
 pub loop-form-smaller : goal.loop-form-smaller
 loop-form-smaller c =
-    let r = c.read.ensures in
+    let r = c.read-r.ensures in
     let v = c.in-Record in
     let m = moves _ _ v.kind v.call v.next (sym r ∙ v.is) in
     let x = m.0 in
@@ -113,7 +108,7 @@ loop-form-preserved c =
     let w = c.loop-form.invariant in
     let i = c.is_short.ensures in
     let j = c.if-is_short.false in
-    let r = c.read.ensures in
+    let r = c.read-r.ensures in
     let v = c.in-Record in
     let n = c.room_for.ensures in
     let k = c.if-out-at.false in
