@@ -54,6 +54,14 @@ pub fn argument<E: Env>(env: &E, i: usize, buf: &mut [u8]) -> usize
     }
 }
 
+// Why an argument could not be had, in the system's words: there is none (22), or it is too long (36).
+pub fn no_argument(why: env::FillError) -> io::Error {
+    match why {
+        env::FillError::NotPresent => io::Error::from_raw_os_error(22),
+        env::FillError::TooLong => io::Error::from_raw_os_error(36),
+    }
+}
+
 // Bytes as text; `?` where they are none.
 pub fn text(bytes: &[u8]) -> &str {
     match str::from_utf8(bytes) {
