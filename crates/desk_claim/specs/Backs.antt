@@ -13,7 +13,7 @@ use Rattle.ledger.specs.Ledger.{Ledger}
 use Rattle.ledger.specs.Refusals.{first_of, checks, refusal}
 use Rattle.ledger.specs.Steps as Steps
 use Rattle.ledger.specs.Steps.{accept, advance, block_places}
-use Rattle.ledger.specs.Lawful.{Lawful}
+use Rattle.ledger.proofs.Lawful.{Lawful}
 use Rattle.refusals.specs.Refusals.{tick_refusal, process_refusal, rate_refusal}
 use Rattle.sequencer.specs.declared.Sequencer.{Sequencer}
 use Rattle.sequencer.specs.Answers as Engine

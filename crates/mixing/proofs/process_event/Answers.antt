@@ -5,7 +5,7 @@ use Rattle.event.specs.declared.Source.{Source}
 use Rattle.event.specs.Sources.{advanced_by}
 use Rattle.event.specs.SourceStays.{source_stays}
 use Rattle.ledger.specs.BlockSamples.{channel_after, after_block}
-use Rattle.ledger.specs.WithinBlock.{end_within}
+use Rattle.ledger.proofs.WithinBlock.{end_within}
 use Rattle.mixing.specs.declared.Place.{Place}
 use Rattle.mixing.specs.Blocks.{as_span}
 use Rattle.mixing.specs.Placed.{fades_in, fades_out}

@@ -15,9 +15,9 @@ use Rattle.event.specs.Events.{number_of, earlier, rewound}
 use Rattle.floats.specs.Arithmetic.{zeroᶠ, -∞}
 use Rattle.ledger.specs.FloatOrder.{lt_through, not-before-all}
 use Rattle.ledger.specs.Lists.{insert, insert_all, start, with_edit, edit_of, drop_edit}
-use Rattle.ledger.specs.Sums.{event_sum, weight_in}
-use Rattle.ledger.specs.Conservation.{by_number}
-use Rattle.ledger.specs.Partition.{is}
+use Rattle.ledger.proofs.Sums.{event_sum, weight_in}
+use Rattle.ledger.proofs.Conservation.{by_number}
+use Rattle.ledger.proofs.Partition.{is}
 
 -- each comes before all that follow it
 abbrev pub Sorted : List Event → Type 0

@@ -16,10 +16,10 @@ use Rattle.ledger.specs.Lists.{start, with_edit, edit_of, drop_edit, store_edit,
 use Rattle.ledger.specs.Refusals.{missing, checks, push_checks, edit_checks, refusal, tick_end, block_end, stated_end, edit_end}
 use Rattle.ledger.specs.Steps.{accept, decide, step, change, set_rate, restart, everything, advance, pushed_time, span_of, cleared, enter}
 use Rattle.ledger.specs.Ledger.{Ledger, create, held, fresh}
-use Rattle.ledger.specs.Sums.{event_sum_one, event_sum_rewound, event_sum_edit, event_sum_tick, event_sum_block}
-use Rattle.ledger.specs.Conservation.{held_sum, held_sum_enter, held_sum_advance, event_sum_stays, event_sum_everything}
-use Rattle.ledger.specs.Partition.{is}
-use Rattle.ledger.specs.Refused.{AllPass, all_pass}
+use Rattle.ledger.proofs.Sums.{event_sum_one, event_sum_rewound, event_sum_edit, event_sum_tick, event_sum_block}
+use Rattle.ledger.proofs.Conservation.{held_sum, held_sum_enter, held_sum_advance, event_sum_stays, event_sum_everything}
+use Rattle.ledger.proofs.Partition.{is}
+use Rattle.ledger.proofs.Refused.{AllPass, all_pass}
 
 abbrev one : Float → ℕ → ℕ
 one x n = 1

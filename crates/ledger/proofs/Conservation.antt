@@ -18,7 +18,7 @@ use Rattle.ledger.specs.Steps.{Outcome, refused_reply, cleared, enter, change, a
 use Rattle.ledger.specs.Lists.{numbers, insert_all, start, sweep, has}
 use Rattle.ledger.specs.Refusals.{refusal, tick_end, block_end, stated_end, edit_end}
 use Rattle.ledger.specs.Claim.{accepted_of}
-use Rattle.ledger.specs.Sums.{number_sum, number_sum_append, weight, event_sum, event_sum_append, event_sum_insert, event_sum_insert_all, event_sum_rewound, event_sum_edit, event_sum_start, event_sum_sweep, event_sum_tick, event_sum_block, number_sum_numbers}
+use Rattle.ledger.proofs.Sums.{number_sum, number_sum_append, weight, event_sum, event_sum_append, event_sum_insert, event_sum_insert_all, event_sum_rewound, event_sum_edit, event_sum_start, event_sum_sweep, event_sum_tick, event_sum_block, number_sum_numbers}
 
 -- the weight of W, S and F, by start and number
 module _ (w : Float → ℕ → ℕ) where

@@ -12,8 +12,8 @@ use Rattle.ledger.specs.Steps.{Outcome, accept, decide, step, run, change, set_r
 use Rattle.ledger.specs.Refusals.{refusal, edit_end}
 use Rattle.ledger.specs.Ledger.{Ledger, held, create, fresh}
 use Rattle.ledger.specs.Lists.{has}
-use Rattle.ledger.specs.Sums.{number_sum, number_sum_append, number_sum_one, event_sum_one}
-use Rattle.ledger.specs.Conservation.{four_sum, refused_none, step-adds}
+use Rattle.ledger.proofs.Sums.{number_sum, number_sum_append, number_sum_one, event_sum_one}
+use Rattle.ledger.proofs.Conservation.{four_sum, refused_none, step-adds}
 use Rattle.ledger.specs.Numbers.{up_from}
 use Rattle.ledger.specs.Claim.{accepted_of, accepted, times, among}
 

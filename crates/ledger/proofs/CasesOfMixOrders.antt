@@ -14,8 +14,8 @@ use Rattle.ledger.specs.Lists.{numbers}
 use Rattle.ledger.specs.Steps.{run}
 use Rattle.ledger.specs.Computes.{computes}
 use Rattle.ledger.specs.Cases.{one_tick, block_of, answers_of, last_out, places}
-use Rattle.ledger.specs.CasesOfSamples.{last_reply}
-use Rattle.ledger.specs.CasesOfSlips.{values_of, ledger_of, replies_of}
+use Rattle.ledger.proofs.CasesOfSamples.{last_reply}
+use Rattle.ledger.proofs.CasesOfSlips.{values_of, ledger_of, replies_of}
 
 abbrev marked_tick : Call
 marked_tick = tick Backward [] (zeroᶠ ∷ [])

@@ -15,7 +15,7 @@ use Rattle.ledger.specs.Ledger.{Ledger, fresh}
 use Rattle.ledger.specs.Steps.{run}
 use Rattle.ledger.specs.Computes.{computes}
 use Rattle.ledger.specs.Cases.{decimal, one_tick, block_of, last_out, places}
-use Rattle.ledger.specs.CasesOfSlips.{values_of, ledger_of, replies_of, at_rate10}
+use Rattle.ledger.proofs.CasesOfSlips.{values_of, ledger_of, replies_of, at_rate10}
 
 abbrev quarter : Float
 quarter = fin false 1 (negsuc 1)

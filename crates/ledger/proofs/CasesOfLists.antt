@@ -15,7 +15,7 @@ use Rattle.ledger.specs.Ledger.{Ledger, fresh}
 use Rattle.ledger.specs.Steps.{run}
 use Rattle.ledger.specs.Computes.{computes}
 use Rattle.ledger.specs.Cases.{held1, one_tick, block_of, answers_of}
-use Rattle.ledger.specs.CasesOfSlips.{ends_of, values_of, ledger_of, replies_of}
+use Rattle.ledger.proofs.CasesOfSlips.{ends_of, values_of, ledger_of, replies_of}
 
 abbrev quarter : Float
 quarter = fin false 1 (negsuc 1)

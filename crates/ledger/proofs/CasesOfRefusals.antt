@@ -15,8 +15,8 @@ use Rattle.ledger.specs.Ledger.{Ledger, fresh, create}
 use Rattle.ledger.specs.Steps.{run, with_lists}
 use Rattle.ledger.specs.Computes.{computes}
 use Rattle.ledger.specs.Cases.{held1, one_tick, block_of, answers_of, places}
-use Rattle.ledger.specs.CasesOfLimits.{pushes, edits}
-use Rattle.ledger.specs.CasesOfSlips.{ledger_of, replies_of}
+use Rattle.ledger.proofs.CasesOfLimits.{pushes, edits}
+use Rattle.ledger.proofs.CasesOfSlips.{ledger_of, replies_of}
 
 -- 1,000,000,000, and the f64 next above it
 abbrev limit : Float

@@ -16,10 +16,10 @@ use Rattle.ledger.specs.Ledger.{Ledger, fresh}
 use Rattle.ledger.specs.Steps.{run}
 use Rattle.ledger.specs.Computes.{computes}
 use Rattle.ledger.specs.Cases.{one_tick, block_of, answers_of, last_out, outs_of, bits}
-use Rattle.ledger.specs.CasesOfFades.{ticks_at, block_at}
-use Rattle.ledger.specs.CasesOfLimits.{pushes}
-use Rattle.ledger.specs.CasesOfRefusals.{answers_to}
-use Rattle.ledger.specs.CasesOfSlips.{ends_of, values_of, ledger_of, replies_of}
+use Rattle.ledger.proofs.CasesOfFades.{ticks_at, block_at}
+use Rattle.ledger.proofs.CasesOfLimits.{pushes}
+use Rattle.ledger.proofs.CasesOfRefusals.{answers_to}
+use Rattle.ledger.proofs.CasesOfSlips.{ends_of, values_of, ledger_of, replies_of}
 
 -- a clip from 0 to 1, with a fade-in
 abbrev playing : (fade_in : Float) → Source → (gain : Float) → Call

@@ -8,7 +8,7 @@ use Rattle.ledger.specs.Lists.{place_of}
 use Rattle.ledger.specs.Ledger.{Ledger, create}
 use Rattle.ledger.specs.Steps.{Outcome, step}
 use Rattle.ledger.specs.Claim.{counts_of, View, Engine, SameState, SameReply, SameScratch, Claim}
-use Rattle.ledger.specs.ClaimByRelation.{claim_by_relation}
+use Rattle.ledger.proofs.ClaimByRelation.{claim_by_relation}
 
 -- with a next number of its own: a desk's is that after the queued pushes
 abbrev pub view_with : (next : ℕ) → Ledger → View

@@ -14,11 +14,11 @@ use Rattle.event.specs.declared.Event.{Event}
 use Rattle.event.specs.declared.MixOrder.{MixOrder}
 use Rattle.ledger.specs.BlockSamples.{Span, end_place, first_place, faded_run, add_at, channel_after, scratch_after, after_block, block_sum, overlay}
 use Rattle.ledger.specs.Calls.{block}
-use Rattle.ledger.specs.FadesByPlace.{length-faded-run}
+use Rattle.ledger.proofs.FadesByPlace.{length-faded-run}
 use Rattle.ledger.specs.Ledger.{Ledger}
 use Rattle.ledger.specs.Refusals.{block_end}
 use Rattle.ledger.specs.Steps.{advance, in_order, span_of, with_sounding, cleared, accept}
-use Rattle.ledger.specs.WithinBlock.{end_within}
+use Rattle.ledger.proofs.WithinBlock.{end_within}
 
 -- ---- the former method: 64 scratch samples for every channel, and every channel filled, faded and added by itself
 

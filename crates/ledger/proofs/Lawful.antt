@@ -9,14 +9,14 @@ use Rattle.floats.specs.Arithmetic.{◌<ᶠ◌, ◌≤ᶠ◌}
 use Rattle.ledger.specs.Calls.{Call}
 use Rattle.ledger.specs.Steps.{Outcome, step, run}
 use Rattle.ledger.specs.Ledger.{Ledger, held, create, fresh}
-use Rattle.ledger.specs.Sums.{event_sum, event_sum_one, number_sum, number_sum_one, weight_in, weightless}
-use Rattle.ledger.specs.Conservation.{four_sum, step-adds}
+use Rattle.ledger.proofs.Sums.{event_sum, event_sum_one, number_sum, number_sum_one, weight_in, weightless}
+use Rattle.ledger.proofs.Conservation.{four_sum, step-adds}
 use Rattle.ledger.specs.Claim.{accepted_of, accepted}
-use Rattle.ledger.specs.Partition.{Partition, partition, stands, is, Numbered, same, issued, step-numbered, create-empty}
-use Rattle.ledger.specs.Sorted.{Sorted, weakly_sorted, sorted_of, early, nan_start, one_if_no, no_one_if}
-use Rattle.ledger.specs.NotNan.{billion, le-not_nan}
-use Rattle.ledger.specs.OrderKept.{InOrder, step_order, create_order}
-use Rattle.ledger.specs.Limits.{Limits, edits_of, step-limits, create-limits}
+use Rattle.ledger.proofs.Partition.{Partition, partition, stands, is, Numbered, same, issued, step-numbered, create-empty}
+use Rattle.ledger.proofs.Sorted.{Sorted, weakly_sorted, sorted_of, early, nan_start, one_if_no, no_one_if}
+use Rattle.ledger.proofs.NotNan.{billion, le-not_nan}
+use Rattle.ledger.proofs.OrderKept.{InOrder, step_order, create_order}
+use Rattle.ledger.proofs.Limits.{Limits, edits_of, step-limits, create-limits}
 
 abbrev pub NoNanStart : List Event → Type 0
 NoNanStart l = (e : Event) → Memᴰ e l → is_nan e.start_time ≡ false

@@ -27,7 +27,7 @@ use Rattle.ledger.specs.TickSamples as Tick
 use Rattle.ledger.specs.TickSamples.{TickSum}
 use Rattle.ledger.specs.BlockSamples as Block
 use Rattle.ledger.specs.BlockSamples.{Span, BlockSum, first_place, end_place, after_block, overlay, overlay_scratch}
-use Rattle.ledger.specs.WithoutGain.{tick_sum, block_sum, AllSingle, Single, AtOne, AllAtOne, advanced-single, gains_of_one}
+use Rattle.ledger.proofs.WithoutGain.{tick_sum, block_sum, AllSingle, Single, AtOne, AllAtOne, advanced-single, gains_of_one}
 
 -- ---- the ledger without gain
 

@@ -16,7 +16,7 @@ use Rattle.ledger.specs.Ledger.{Ledger, create}
 use Rattle.ledger.specs.Steps.{refused_reply, with_lists, step, run}
 use Rattle.ledger.specs.Computes.{computes}
 use Rattle.ledger.specs.Claim.{Counts, Engine, calls, engine_after, ledger_after, AllLend, Claim}
-use Rattle.ledger.specs.LedgerMeets.{view_of, pair_of, engine_of}
+use Rattle.ledger.proofs.LedgerMeets.{view_of, pair_of, engine_of}
 
 -- ---- calls that show the difference
 
