@@ -1,1 +1,2 @@
+mod Plays
 mod Rolling

@@ -16,7 +16,8 @@ use Rattle.tape_extent.specs.declared.Paced.{Paced}
 use Rattle.tape_extent.specs.Playing.{Played, play}
 use Rattle.tape_extent.specs.Extents.{frames_of, nothing, rate_with, one_rate_with, longer, counted, ended_by, end_of, after_record, after_read, extent_from, whole_extent, capped, counts64, extent_of}
 use Rattle.tape_extent.specs.Paces.{fresh_pace, paced}
-use Rattle.tape_extent.specs.PacesPlay.{pace_of, Agrees, plays}
+use Rattle.tape_extent.specs.PacesPlay.{pace_of, Agrees}
+use Rattle.tape_extent.proofs.Plays.{plays}
 
 -- ---- counts of 64 bits
 
