@@ -8,6 +8,8 @@ use event::ReplayMode;
 use memory::{Levels, Marks, Numbers, Times};
 use runs::least;
 use sequencer::Answer;
+use std::io;
+use std::io::{BufWriter, Write};
 use tape::fields;
 use tape::reader::{Cursor, Read};
 
@@ -19,27 +21,32 @@ fn mark(numbers: &mut [u64]) {
     }
 }
 
-fn list_numbers(numbers: &[u64]) {
-    let mut i = 0;
-    while i < numbers.len() {
-        io::write_all(1, b" ");
-        io::print_decimal(1, numbers[i]);
-        i = i + 1;
+fn list_numbers<W: Write>(out: &mut W, numbers: &[u64]) -> io::Result<()> {
+    for n in numbers {
+        write!(out, " {n}")?;
     }
-    io::write_all(1, b"\n");
+    out.write_all(b"\n")
 }
 
 // The engine behind a run.
-fn list_engine(times: &Times, levels: &Levels, marks: &Marks, numbers: &Numbers) {
+fn list_engine<W: Write>(
+    out: &mut W,
+    times: &Times,
+    levels: &Levels,
+    marks: &Marks,
+    numbers: &Numbers,
+) -> io::Result<()> {
     let mut text = [0u8; 1024];
     let s = plain_engine::engine(times, levels, marks, numbers);
     let n = state_listing::engine_line(32, Answer::Done, s, &mut text);
     if n <= 1024 {
-        io::write_all(1, &text[..n]);
+        out.write_all(&text[..n])?;
     }
+    Ok(())
 }
 
-fn push_records(
+fn push_records<W: Write>(
+    out: &mut W,
     times: &mut Times,
     levels: &mut Levels,
     marks: &mut Marks,
@@ -48,7 +55,7 @@ fn push_records(
     count: usize,
     len: usize,
     given: &mut [u64],
-) {
+) -> io::Result<()> {
     mark(given);
     let n = least(len, given.len());
     let b = batch::push_records(
@@ -60,15 +67,16 @@ fn push_records(
         count,
         &mut given[0..n],
     );
-    io::print_decimal(1, b.pushed as u64);
-    io::write_all(1, b" ");
-    io::print_decimal(1, b.ended);
-    list_numbers(given);
-    list_engine(times, levels, marks, numbers);
+    let pushed = b.pushed;
+    let ended = b.ended;
+    write!(out, "{pushed} {ended}")?;
+    list_numbers(out, given)?;
+    list_engine(out, times, levels, marks, numbers)
 }
 
 // The run of push records at a place up to 65,536: the place behind it, or 65,537 if its head is cut.
-fn play_run(
+fn play_run<W: Write>(
+    out: &mut W,
     times: &mut Times,
     levels: &mut Levels,
     marks: &mut Marks,
@@ -76,20 +84,20 @@ fn play_run(
     bytes: &[u8],
     at: usize,
     given: &mut [u64],
-) -> usize
+) -> io::Result<usize>
     requires { at ≤ 65536 }
 {
     let from = at + 5;
     if bytes.len() < from {
-        return 65537;
+        return Ok(65537);
     }
     let count = fields::byte(bytes, at + 1) as usize;
     let len = fields::byte(bytes, at + 2) as usize;
     let size = fields::word32(bytes, at + 3) as usize % 65536;
     let n = least(size, bytes.len() - from);
     let records = &bytes[from..from + n];
-    push_records(times, levels, marks, numbers, records, count, len, given);
-    from + n
+    push_records(out, times, levels, marks, numbers, records, count, len, given)?;
+    Ok(from + n)
 }
 
 // Any other record at a place: the place behind it, or 65,537 if there is none.
@@ -132,7 +140,7 @@ fn no_numbers() -> Numbers {
     [0; 1288]
 }
 
-fn run(bytes: &[u8], pool: &[f32]) {
+fn run<W: Write>(out: &mut W, bytes: &[u8], pool: &[f32]) -> io::Result<()> {
     let mut times = no_times();
     let mut levels = no_levels();
     let mut marks = no_marks();
@@ -154,10 +162,11 @@ fn run(bytes: &[u8], pool: &[f32]) {
     while turns > 0 {
         turns = turns - 1;
         if 65536 < at {
-            return;
+            return Ok(());
         }
         if fields::byte(bytes, at) == 32 {
             at = play_run(
+                out,
                 &mut times,
                 &mut levels,
                 &mut marks,
@@ -165,7 +174,7 @@ fn run(bytes: &[u8], pool: &[f32]) {
                 bytes,
                 at,
                 &mut given,
-            );
+            )?;
         } else {
             at = play_record(
                 &mut times,
@@ -179,13 +188,14 @@ fn run(bytes: &[u8], pool: &[f32]) {
             );
         }
     }
+    Ok(())
 }
 
-fn main() {
-    let mut buf = io::large_buffer();
-    let n = io::read_full(0, &mut buf);
-    if n <= 65536 {
-        let pool = tape::pool::trail_pool();
-        run(&buf[..n], &pool);
-    }
+fn main(rt: HostRuntime) -> io::Result<()> {
+    let mut buf = [0u8; 65536];
+    let n = streams::read_full(&mut rt.stdin(), &mut buf);
+    let mut out = BufWriter::new(rt.alloc(), rt.stdout())?;
+    let pool = tape::pool::trail_pool();
+    run(&mut out, &buf[..n], &pool)?;
+    out.flush()
 }

@@ -1,11 +1,12 @@
-// A record's lines, written to standard output: what they are is told by the contracts of crate `listing`.
+// A record's lines, written out: what they are is told by the contracts of crate `listing`.
 ghost use Rattle.std.specs.Prelude.{◌≡◌, false};
 
 use sequencer::Counts;
+use std::io::Write;
 use tape::reader::Read;
 
 // Whether the line was written.
-pub(crate) fn list_counts(kind: u8, refusal: u64, counts: Counts) -> bool {
+pub(crate) fn list_counts<W: Write>(out: &mut W, kind: u8, refusal: u64, counts: Counts) -> bool {
     let mut text = [0u8; 128];
     let n = listing::counts_line(
         kind,
@@ -17,14 +18,20 @@ pub(crate) fn list_counts(kind: u8, refusal: u64, counts: Counts) -> bool {
         &mut text,
     );
     if n <= 128 {
-        io::write_all(1, &text[..n])
+        out.write_all(&text[..n]).is_ok()
     } else {
         false
     }
 }
 
 // A line for each channel; false where one was not written.
-fn list_samples(samples: &[f32], channels: usize, each: usize, stride: usize) -> bool {
+fn list_samples<W: Write>(
+    out: &mut W,
+    samples: &[f32],
+    channels: usize,
+    each: usize,
+    stride: usize,
+) -> bool {
     let mut text = [0u8; 576];
     let mut left = channels;
     let mut from: usize = 0;
@@ -42,7 +49,7 @@ fn list_samples(samples: &[f32], channels: usize, each: usize, stride: usize) ->
         if 576 < n {
             return false;
         }
-        if !io::write_all(1, &text[..n]) {
+        if out.write_all(&text[..n]).is_err() {
             return false;
         }
         from = from + stride;
@@ -52,7 +59,8 @@ fn list_samples(samples: &[f32], channels: usize, each: usize, stride: usize) ->
 }
 
 // Lists a record that was carried out or refused; false where the listing ends: at refusal 1, and where a line was not written.
-pub(crate) fn list(
+pub(crate) fn list<W: Write>(
+    out: &mut W,
     kind: u8,
     refusal: u64,
     counts: Counts,
@@ -63,20 +71,20 @@ pub(crate) fn list(
 ) -> bool
     ensures { refusal ≡ 1 → result ≡ false }
 {
-    if !list_counts(kind, refusal, counts) {
+    if !list_counts(out, kind, refusal, counts) {
         return false;
     }
     if refusal == 1 {
         return false;
     }
-    list_samples(samples, channels, each, stride)
+    list_samples(out, samples, channels, each, stride)
 }
 
 // The line of a record that 14 or 15 refuses.
-pub(crate) fn stop(r: Read, counts: Counts) {
+pub(crate) fn stop<W: Write>(out: &mut W, r: Read, counts: Counts) {
     match r {
         Read::Refused { kind, number } => {
-            list_counts(kind, number as u64, counts);
+            list_counts(out, kind, number as u64, counts);
         }
         Read::End => {}
         Read::Record {

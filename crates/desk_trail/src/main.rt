@@ -10,6 +10,8 @@ use event::MixOrder;
 use realseq::{Answer, Outcome, SequencerBackend};
 use runs::least;
 use sequencer::{Counts, Sequencer};
+use std::io;
+use std::io::{BufWriter, Write};
 use tape::reader::{Call, Cursor, PushRecord, Read};
 
 // ---- calls
@@ -249,23 +251,25 @@ fn counts(d: SequencerBackend) -> Counts {
     s.counts()
 }
 
-fn stop(r: Read, d: SequencerBackend) {
-    lines::stop(r, counts(d))
+fn stop<W: Write>(out: &mut W, r: Read, d: SequencerBackend) {
+    lines::stop(out, r, counts(d))
 }
 
-// Writes the line of a record's answer and of the desk behind it.
-fn list_desk(kind: u8, answer: Answer, d: SequencerBackend) {
+// Writes the line of a record's answer and of the desk behind it; false where it was not written.
+fn list_desk<W: Write>(out: &mut W, kind: u8, answer: Answer, d: SequencerBackend) -> bool {
     let mut text = [0u8; 1024];
     let n = state_listing::desk_line(kind, answer, d, &mut text);
     if n <= 1024 {
-        io::write_all(1, &text[..n]);
+        return out.write_all(&text[..n]).is_ok();
     }
+    true
 }
 
 // Lists an applied record and the state; false where the listing ends there.
-fn list(kind: u8, p: Played, samples: &[f32]) -> bool {
+fn list<W: Write>(out: &mut W, kind: u8, p: Played, samples: &[f32]) -> bool {
     let d = p.backend;
     if !lines::list(
+        out,
         kind,
         p.refusal,
         counts(d),
@@ -277,15 +281,14 @@ fn list(kind: u8, p: Played, samples: &[f32]) -> bool {
         return false;
     }
     let answer = p.answer;
-    list_desk(kind, answer, d);
-    true
+    list_desk(out, kind, answer, d)
 }
 
 fn silence() -> [f32; 576] {
     [0.0; 576]
 }
 
-fn run(script: &[u8], whole: &[f32]) {
+fn run<W: Write>(out: &mut W, script: &[u8], whole: &[f32]) {
     let mut samples = silence();
     let made = Sequencer::new(1, event::ReplayMode::All, 1);
     let s = made.sequencer;
@@ -302,12 +305,12 @@ fn run(script: &[u8], whole: &[f32]) {
             let c = Cursor { at, first };
             let r = c.read(script);
             let Read::Record { kind, call, next } = r else {
-                stop(r, d);
+                stop(out, r, d);
                 return;
             };
             let p = play(d, call, &whole[..pool], &mut samples);
             d = p.backend;
-            if !list(kind, p, &samples) {
+            if !list(out, kind, p, &samples) {
                 return;
             }
             first = next.first;
@@ -317,14 +320,14 @@ fn run(script: &[u8], whole: &[f32]) {
                 return;
             }
             if script.len() - at < size {
-                lines::list_counts(kind, 15, counts(d));
+                lines::list_counts(out, kind, 15, counts(d));
                 return;
             }
             let bs = &script[at..];
             pool = lent(kind, bs, pool, whole.len());
             let p = play_script(d, kind, bs, &whole[..pool], &mut samples);
             d = p.backend;
-            if !list(kind, p, &samples) {
+            if !list(out, kind, p, &samples) {
                 return;
             }
             at = at + size;
@@ -332,11 +335,11 @@ fn run(script: &[u8], whole: &[f32]) {
     }
 }
 
-fn main() {
-    let mut buf = io::large_buffer();
-    let n = io::read_full(0, &mut buf);
-    if n <= 65536 {
-        let pool = tape::pool::trail_pool();
-        run(&buf[..n], &pool);
-    }
+fn main(rt: HostRuntime) -> io::Result<()> {
+    let mut buf = [0u8; 65536];
+    let n = streams::read_full(&mut rt.stdin(), &mut buf);
+    let mut out = BufWriter::new(rt.alloc(), rt.stdout())?;
+    let pool = tape::pool::trail_pool();
+    run(&mut out, &buf[..n], &pool);
+    out.flush()
 }

@@ -5,6 +5,8 @@
 ghost use Rattle.std.specs.Prelude.{◌≡◌, ◌<◌, length};
 
 use floats::{Clamp, Order};
+use std::io;
+use std::io::{BufReader, BufWriter, Read, Write};
 
 // The value of a hexadecimal digit, 0 of any other byte.
 fn digit(b: u8) -> u64
@@ -113,21 +115,22 @@ fn answer(line: &[u8; 53]) -> [u8; 17] {
 }
 
 // Answers a line; false at the end of the input.
-fn step() -> bool {
+fn step<R: Read, W: Write>(from: &mut R, out: &mut W) -> io::Result<bool> {
     let mut line = [0u8; 53];
-    if io::read_full(0, &mut line) < 53 {
-        return false;
+    if streams::read_full(from, &mut line) < 53 {
+        return Ok(false);
     }
-    let out = answer(&line);
-    io::write_all(1, &out)
+    out.write_all(&answer(&line))?;
+    Ok(true)
 }
 
-fn main() {
-    let mut turns = u64::MAX;
-    while turns > 0 {
-        if !step() {
-            return;
+fn main(rt: HostRuntime) -> io::Result<()> {
+    let mut from = BufReader::new(rt.alloc(), rt.stdin())?;
+    let mut out = BufWriter::new(rt.alloc(), rt.stdout())?;
+    for _ in 0..u64::MAX {
+        if !step(&mut from, &mut out)? {
+            break;
         }
-        turns = turns - 1;
     }
+    out.flush()
 }

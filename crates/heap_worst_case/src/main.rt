@@ -3,14 +3,16 @@
 #![tactic(auto)]
 
 use rises::{Laid, Total};
+use std::io;
+use std::rt::Env;
 
 // N, or 0 where the words are not one that writes it.
-fn argument() -> usize {
-    if os::arg_count() != 2 {
+fn argument<E: Env>(env: &E) -> usize {
+    if streams::argument_count(env) != 2 {
         return 0;
     }
     let mut word = [0u8; 8];
-    let n = os::arg(1, &mut word);
+    let n = streams::argument(env, 1, &mut word);
     if n <= 8 {
         rises::count_of(&word[..n])
     } else {
@@ -19,43 +21,36 @@ fn argument() -> usize {
 }
 
 // Writes the first `n` bytes.
-fn write_front(buf: &[u8], n: usize) {
+fn write_front<R: Print>(rt: &R, buf: &[u8], n: usize) -> io::Result<()> {
     if buf.len() < n {
-        return;
+        return Ok(());
     }
-    io::write_all(1, &buf[..n]);
+    rt.write_all(&buf[..n])
 }
 
-fn write_total(total: Total) {
+fn write_total<E: Eprint>(rt: &E, total: Total) -> io::Result<()> {
     match total {
-        Total::Levels(levels) => {
-            io::print_decimal(2, levels as u64);
-        }
-        Total::Refused(refusal) => {
-            io::print_decimal(2, refusal);
-        }
+        Total::Levels(levels) => eprint!(rt; "{levels}"),
+        Total::Refused(refusal) => eprint!(rt; "{refusal}"),
     }
 }
 
-fn write_figures(n: usize) {
-    write_total(rises::greatest_total(n));
-    io::write_all(2, b" ");
-    write_total(rises::arranged_total(n));
-    io::write_all(2, b"\n");
+fn write_figures<E: Eprint>(rt: &E, n: usize) -> io::Result<()> {
+    write_total(rt, rises::greatest_total(n))?;
+    eprint!(rt; " ")?;
+    write_total(rt, rises::arranged_total(n))?;
+    eprint!(rt; "\n")
 }
 
-fn main() {
-    let n = argument();
-    let mut buf = io::large_buffer();
+fn main(rt: HostRuntime) -> io::Result<()> {
+    let n = argument(&rt);
+    let mut buf = [0u8; 65536];
     let laid = rises::lay(n, &mut buf);
     match laid {
         Laid::Bytes(len) => {
-            write_front(&buf, len);
-            write_figures(n)
+            write_front(&rt, &buf, len)?;
+            write_figures(&rt, n)
         }
-        Laid::Refused(refusal) => {
-            io::print_decimal(2, refusal);
-            io::write_all(2, b"\n");
-        }
+        Laid::Refused(refusal) => eprint!(rt; "{refusal}\n"),
     }
 }

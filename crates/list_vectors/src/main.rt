@@ -8,6 +8,7 @@ use digests::mixed;
 use event::{Edit, Event, EventId, Fade, Source, Unit};
 use lists::{ActiveMap, EditMap, Found, FoundEdit};
 use ready::Ready;
+use std::io;
 
 // The next random number.
 fn random(seed: u32) -> u32 {
@@ -299,7 +300,7 @@ fn digit(x: u64) -> u8 {
 }
 
 // A line of a name and sixteen hexadecimal digits.
-fn print(name: &[u8], x: u64) {
+fn print<R: Print>(rt: &R, name: &[u8], x: u64) -> io::Result<()> {
     let line = [
         digit(x >> 60),
         digit(x >> 56),
@@ -319,25 +320,25 @@ fn print(name: &[u8], x: u64) {
         digit(x),
         b'\n',
     ];
-    io::write_all(1, name);
-    io::write_all(1, &line);
+    rt.write_all(name)?;
+    rt.write_all(&line)
 }
 
-fn main() {
-    print(b"heap  ", heap_digest(40000));
-    print(b"index ", index_digest(20000));
-    print(b"edits ", edit_digest(20000));
-    print(b"peak 0    ", peaks::peak_digest(0, 4096));
-    print(b"peak 1    ", peaks::peak_digest(1, 4096));
-    print(b"peak 2    ", peaks::peak_digest(2, 4096));
-    print(b"peak 64   ", peaks::peak_digest(64, 4096));
-    print(b"peak 1000 ", peaks::peak_digest(1000, 4096));
-    print(b"peak 4095 ", peaks::peak_digest(4095, 4096));
-    print(b"peak 4096 ", peaks::peak_digest(4096, 4096));
-    print(b"peak 4097 ", peaks::peak_digest(4097, 4096));
-    print(b"peak 1 in 0   ", peaks::peak_digest(1, 0));
-    print(b"peak 64 in 0  ", peaks::peak_digest(64, 0));
-    print(b"peak 64 in 63 ", peaks::peak_digest(64, 63));
-    print(b"peak 64 in 64 ", peaks::peak_digest(64, 64));
-    print(b"hours ", hours::hours_digest(4000));
+fn main(rt: HostRuntime) -> io::Result<()> {
+    print(&rt, b"heap  ", heap_digest(40000))?;
+    print(&rt, b"index ", index_digest(20000))?;
+    print(&rt, b"edits ", edit_digest(20000))?;
+    print(&rt, b"peak 0    ", peaks::peak_digest(0, 4096))?;
+    print(&rt, b"peak 1    ", peaks::peak_digest(1, 4096))?;
+    print(&rt, b"peak 2    ", peaks::peak_digest(2, 4096))?;
+    print(&rt, b"peak 64   ", peaks::peak_digest(64, 4096))?;
+    print(&rt, b"peak 1000 ", peaks::peak_digest(1000, 4096))?;
+    print(&rt, b"peak 4095 ", peaks::peak_digest(4095, 4096))?;
+    print(&rt, b"peak 4096 ", peaks::peak_digest(4096, 4096))?;
+    print(&rt, b"peak 4097 ", peaks::peak_digest(4097, 4096))?;
+    print(&rt, b"peak 1 in 0   ", peaks::peak_digest(1, 0))?;
+    print(&rt, b"peak 64 in 0  ", peaks::peak_digest(64, 0))?;
+    print(&rt, b"peak 64 in 63 ", peaks::peak_digest(64, 63))?;
+    print(&rt, b"peak 64 in 64 ", peaks::peak_digest(64, 64))?;
+    print(&rt, b"hours ", hours::hours_digest(4000))
 }

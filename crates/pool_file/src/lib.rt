@@ -1,4 +1,4 @@
-// The pool that clips read: document 01's, or from a file, a WAV of one channel of 32-bit floats, or such samples and nothing else. For programs: which bytes a call of C's reads no contract can say, so
+// The pool that clips read: document 01's, or from a file, a WAV of one channel of 32-bit floats, or such samples and nothing else. For programs: which bytes a file gives no contract can say, so
 // `load` promises how many samples there are and where they stand in the pool (`Loads`). Where they stand in the file and what ends them is decided by the functions above it, by the definitions of
 // specs/Pools.antt.
 #![tactic(auto)]
@@ -8,8 +8,10 @@ ghost use Rattle.std.proofs.lemmas.List.Edits.{sets};
 ghost use Rattle.floats.specs.Arithmetic.{zeroᶠ};
 ghost use Rattle.recording.specs.Samples.{samples_from};
 ghost use Rattle.pool_file.specs.Loading.{ended_by, answer_of, not_loaded, Fills, Loads};
-ghost use Rattle.pool_file.specs.Pools.{is_option, option_line, mono_float, known_by, place_of, nowhere as noPlace, trail_loaded, with_trail_pool};
+ghost use Rattle.pool_file.specs.Pools.{is_option, option_line, mono_float, known_by, place_of, nowhere as no_place, trail_loaded, with_trail_pool};
 
+use std::io::Read;
+use std::rt::Files;
 use tape::fields;
 
 // Room for the longest pool.
@@ -29,7 +31,7 @@ struct Place {
 }
 
 fn nowhere() -> Place
-    ensures { result ≡ noPlace }
+    ensures { result ≡ no_place }
 {
     Place {
         from: 0,
@@ -61,7 +63,7 @@ fn known_by(head: &[u8], at: usize, known: bool) -> bool
     requires { at ≤ 65_536 }
     ensures { result ≡ known_by head.now at known }
 {
-    if fields::word32(head, at) == 0x2074_6_d66 {
+    if fields::word32(head, at) == 0x2074_6d66 {
         return is_mono_float(head, at + 8);
     }
     known
@@ -111,7 +113,7 @@ pub fn is_option(argument: &[u8]) -> bool
     if argument.len() != 6 {
         return false;
     }
-    fields::word(argument, 0, 6) == 0x6_c6_f_6_f70_2_d2_d
+    fields::word(argument, 0, 6) == 0x6c6f_6f70_2d2d
 }
 
 // The option's line of a usage.
@@ -128,11 +130,11 @@ pub struct Loaded {
     pub good: bool,
 }
 
-fn refused(text: &[u8]) -> Loaded
+fn refused<E: Eprint>(rt: &E, text: &[u8]) -> Loaded
     ensures { result ≡ not_loaded }
 {
-    io::write_all(2, b"POOL: ");
-    io::write_all(2, text);
+    streams::say(rt, b"POOL: ");
+    streams::say(rt, text);
     Loaded {
         count: 0,
         good: false,
@@ -171,11 +173,11 @@ fn put(buf: &[u8], n: usize, pool: &mut [f32], count: usize) -> usize
 }
 
 // Reads more behind the bytes at hand.
-fn more(fd: i32, buf: &mut [u8], s: Filling) -> Filling
+fn more<R: Read>(from: &mut R, buf: &mut [u8], s: Filling) -> Filling
     ensures { result.count ≡ s.count }
 {
     let rest = s.have;
-    let came = tape_input::read_on(fd, buf, rest);
+    let came = tape_input::read_on(from, buf, rest);
     if came.failed {
         return ends(s, 2);
     }
@@ -201,7 +203,7 @@ fn more(fd: i32, buf: &mut [u8], s: Filling) -> Filling
 }
 
 // Moves on by the bytes at hand, and reads more.
-fn step(fd: i32, buf: &mut [u8], pool: &mut [f32], s: Filling) -> Filling
+fn step<R: Read>(from: &mut R, buf: &mut [u8], pool: &mut [f32], s: Filling) -> Filling
     requires { s.count ≤ length pool.old }
     ensures { Fills pool.old s.count pool.new result }
 {
@@ -229,19 +231,19 @@ fn step(fd: i32, buf: &mut [u8], pool: &mut [f32], s: Filling) -> Filling
         count: total,
         ended: 0,
     };
-    more(fd, buf, next)
+    more(from, buf, next)
 }
 
 // All the samples of the file, whose bytes at hand are samples from the first on.
-fn fill(fd: i32, buf: &mut [u8], pool: &mut [f32], from: Filling) -> Filling
-    requires { from.count ≤ length pool.old }
-    ensures { Fills pool.old from.count pool.new result }
+fn fill<R: Read>(from: &mut R, buf: &mut [u8], pool: &mut [f32], start: Filling) -> Filling
+    requires { start.count ≤ length pool.old }
+    ensures { Fills pool.old start.count pool.new result }
 {
-    let mut s = from;
+    let mut s = start;
     let mut turns = u64::MAX;
     while turns > 0 {
         turns = turns - 1;
-        s = step(fd, buf, pool, s);
+        s = step(from, buf, pool, s);
         if s.ended != 0 {
             return s;
         }
@@ -250,17 +252,17 @@ fn fill(fd: i32, buf: &mut [u8], pool: &mut [f32], from: Filling) -> Filling
 }
 
 // What a pool with so much room came to.
-fn answer(s: Filling, room: usize) -> Loaded
+fn answer<E: Eprint>(rt: &E, s: Filling, room: usize) -> Loaded
     ensures { result ≡ answer_of s room }
 {
     if s.ended == 2 {
-        return refused(b"cannot be read\n");
+        return refused(rt, b"cannot be read\n");
     }
     if s.ended != 1 {
-        return refused(b"more samples than there is room for\n");
+        return refused(rt, b"more samples than there is room for\n");
     }
     if room < s.count {
-        return refused(b"more samples than there is room for\n");
+        return refused(rt, b"more samples than there is room for\n");
     }
     Loaded {
         count: s.count,
@@ -269,15 +271,16 @@ fn answer(s: Filling, room: usize) -> Loaded
 }
 
 // Puts the samples of an open file into `pool`.
-fn load_from(fd: i32, pool: &mut [f32]) -> Loaded
+fn load_from<E: Eprint, R: Read>(rt: &E, from: &mut R, pool: &mut [f32]) -> Loaded
     ensures bound { result.count ≤ length pool.old }
     ensures lent { Loads pool.old pool.new result }
 {
-    let mut buf = io::large_buffer();
-    let n = io::read_full(fd, &mut buf);
+    let mut buf = [0u8; 65536];
+    let n = streams::read_full(from, &mut buf);
     let p = find_samples(&buf[..n]);
     if !p.known {
         return refused(
+            rt,
             b"neither samples of 32-bit floats nor a WAV of one channel of them (sox IN -c 1 -e float -b 32 OUT.wav makes one)\n",
         );
     }
@@ -288,26 +291,25 @@ fn load_from(fd: i32, pool: &mut [f32]) -> Loaded
         count: 0,
         ended: 0,
     };
-    let end = fill(fd, &mut buf, pool, s);
-    answer(end, pool.len())
+    let end = fill(from, &mut buf, pool, s);
+    answer(rt, end, pool.len())
 }
 
 // Puts the samples of the file that a path names into `pool`. What is wrong is said on standard error.
-pub fn load(path: &[u8], pool: &mut [f32]) -> Loaded
+pub fn load<R: Files + Eprint + Alloc>(rt: &R, path: &[u8], pool: &mut [f32]) -> Loaded
     ensures bound { result.count ≤ length pool.old }
     ensures lent { Loads pool.old pool.new result }
 {
-    let fd = os::open_read(path);
-    if fd < 0 {
-        os::fail(path);
-        return Loaded {
-            count: 0,
-            good: false,
-        };
+    match streams::open(rt, path) {
+        Ok(mut file) => load_from(rt, &mut file, pool),
+        Err(error) => {
+            streams::fail(rt, path, &error);
+            Loaded {
+                count: 0,
+                good: false,
+            }
+        }
     }
-    let loaded = load_from(fd, pool);
-    libc::close(fd);
-    loaded
 }
 
 // Puts samples at the front of `pool`.

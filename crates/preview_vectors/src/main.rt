@@ -4,6 +4,9 @@
 
 ghost use Rattle.std.specs.Prelude.{◌≤◌, length};
 
+use std::io;
+use std::io::{BufReader, BufWriter, Read, Write};
+
 fn word(a: u8, b: u8, c: u8, d: u8) -> u32 {
     a as u32 + 256 * (b as u32) + 65536 * (c as u32) + 16777216 * (d as u32)
 }
@@ -31,36 +34,43 @@ fn count(b: u8) -> usize
 }
 
 // The run, previewed and printed.
-fn show(run: &mut [f32], gains: &[f32; 1025], first: usize, rising: bool) -> bool {
-    io::print_decimal(1, preview::preview(run, gains, first, rising));
-    io::write_all(1, b" ");
+fn show<W: Write>(
+    out: &mut W,
+    run: &mut [f32],
+    gains: &[f32; 1025],
+    first: usize,
+    rising: bool,
+) -> io::Result<bool> {
+    write!(out, "{} ", preview::preview(run, gains, first, rising))?;
     let mut text = [0u8; 576];
     let n = listing::samples_line(run, &mut text);
     if 576 < n {
-        return false;
+        return Ok(false);
     }
-    io::write_all(1, &text[..n])
+    out.write_all(&text[..n])?;
+    Ok(true)
 }
 
 // Answers a preview; false at the end of the input.
-fn step(gains: &[f32; 1025]) -> bool {
+fn step<R: Read, W: Write>(from: &mut R, out: &mut W, gains: &[f32; 1025]) -> io::Result<bool> {
     let mut bytes = [0u8; 262];
-    if io::read_full(0, &mut bytes) < 262 {
-        return false;
+    if streams::read_full(from, &mut bytes) < 262 {
+        return Ok(false);
     }
     let mut run = samples(&bytes);
     let n = count(bytes[5]);
     let first = word(bytes[0], bytes[1], bytes[2], bytes[3]) as usize;
-    show(&mut run[0..n], gains, first, bytes[4] == 1)
+    show(out, &mut run[0..n], gains, first, bytes[4] == 1)
 }
 
-fn main() {
+fn main(rt: HostRuntime) -> io::Result<()> {
     let gains = preview::table();
-    let mut turns = u64::MAX;
-    while turns > 0 {
-        if !step(&gains) {
-            return;
+    let mut from = BufReader::new(rt.alloc(), rt.stdin())?;
+    let mut out = BufWriter::new(rt.alloc(), rt.stdout())?;
+    for _ in 0..u64::MAX {
+        if !step(&mut from, &mut out, &gains)? {
+            break;
         }
-        turns = turns - 1;
     }
+    out.flush()
 }

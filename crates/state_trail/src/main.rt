@@ -5,6 +5,8 @@ use apply::Applied;
 use event::MixOrder;
 use runs::least;
 use sequencer::{Answer, Outcome, Sequencer};
+use std::io;
+use std::io::{BufWriter, Write};
 use tape::reader::{Call, Cursor, EditRecord, Read};
 
 // A call that has an answer of its own.
@@ -49,24 +51,25 @@ fn play(s: Sequencer, call: Call, pool: &[f32], samples: &mut [f32]) -> Outcome 
 }
 
 // Writes the line of a record's answer and of the engine behind it.
-fn list_engine(kind: u8, answer: Answer, s: Sequencer) {
+fn list_engine<W: Write>(out: &mut W, kind: u8, answer: Answer, s: Sequencer) -> io::Result<()> {
     let mut text = [0u8; 1024];
     let n = state_listing::engine_line(kind, answer, s, &mut text);
     if n <= 1024 {
-        io::write_all(1, &text[..n]);
+        out.write_all(&text[..n])?;
     }
+    Ok(())
 }
 
 // The line of a record that 14 or 15 refuses.
-fn stop(r: Read, s: Sequencer) {
+fn stop<W: Write>(out: &mut W, r: Read, s: Sequencer) -> io::Result<()> {
     match r {
-        Read::Refused { kind, number } => list_engine(kind, Answer::Refused(number as u64), s),
-        Read::End => {}
+        Read::Refused { kind, number } => list_engine(out, kind, Answer::Refused(number as u64), s),
+        Read::End => Ok(()),
         Read::Record {
             kind: _,
             call: _,
             next: _,
-        } => {}
+        } => Ok(()),
     }
 }
 
@@ -82,7 +85,7 @@ fn is_refused_creation(answer: Answer) -> bool {
     }
 }
 
-fn run(bytes: &[u8], pool: &[f32]) {
+fn run<W: Write>(out: &mut W, bytes: &[u8], pool: &[f32]) -> io::Result<()> {
     let mut samples = apply::silence();
     let mut s = apply::start();
     let mut first = true;
@@ -93,26 +96,26 @@ fn run(bytes: &[u8], pool: &[f32]) {
         let c = Cursor { at, first };
         let r = c.read(bytes);
         let Read::Record { kind, call, next } = r else {
-            stop(r, s);
-            return;
+            return stop(out, r, s);
         };
         let o = play(s, call, pool, &mut samples);
         s = o.sequencer;
         let answer = o.answer;
-        list_engine(kind, answer, s);
+        list_engine(out, kind, answer, s)?;
         if is_refused_creation(answer) {
-            return;
+            return Ok(());
         }
         first = next.first;
         at = next.at;
     }
+    Ok(())
 }
 
-fn main() {
-    let mut buf = io::large_buffer();
-    let n = io::read_full(0, &mut buf);
-    if n <= 65536 {
-        let pool = tape::pool::trail_pool();
-        run(&buf[..n], &pool);
-    }
+fn main(rt: HostRuntime) -> io::Result<()> {
+    let mut buf = [0u8; 65536];
+    let n = streams::read_full(&mut rt.stdin(), &mut buf);
+    let mut out = BufWriter::new(rt.alloc(), rt.stdout())?;
+    let pool = tape::pool::trail_pool();
+    run(&mut out, &buf[..n], &pool)?;
+    out.flush()
 }

@@ -1,8 +1,10 @@
-// A tape read in pieces through a buffer: for programs that read a tape of any length. Which bytes C's read gives no contract can say; what else reading leaves, specs/Reading.antt does.
+// A tape read in pieces through a buffer: for programs that read a tape of any length. Which bytes a reader of the system gives no contract can say; what else reading leaves, specs/Reading.antt does.
 #![tactic(auto)]
 
 ghost use Rattle.std.specs.Prelude.{◌≡◌, cond, false, ◌++◌, ◌+◌, ◌-◌, ◌≤◌, min, ltb, leb, length, take, drop};
 ghost use Rattle.tape_input.specs.Reading.{ReadOn, NextTape};
+
+use std::io::Read;
 
 // Moves the bytes from `at` up to `have` to the front, and answers how many they are.
 pub fn shift(buf: &mut [u8], at: usize, have: usize) -> usize
@@ -30,7 +32,7 @@ pub struct Came {
 }
 
 // Reads once, behind the first `have` bytes.
-pub fn read_on(fd: i32, buf: &mut [u8], have: usize) -> Came
+pub fn read_on<R: Read>(from: &mut R, buf: &mut [u8], have: usize) -> Came
     ensures bound { have ≤ length buf.old → have + result.count ≤ length buf.old }
     ensures read { ReadOn buf.old have buf.new result }
 {
@@ -40,11 +42,15 @@ pub fn read_on(fd: i32, buf: &mut [u8], have: usize) -> Came
             failed: true,
         };
     }
-    let got = libc::read(fd, &mut buf[have..]);
-    let n = io::count(got, &buf[have..]);
-    Came {
-        count: n,
-        failed: got < 0,
+    match from.read(&mut buf[have..]) {
+        Ok(count) => Came {
+            count,
+            failed: false,
+        },
+        Err(_) => Came {
+            count: 0,
+            failed: true,
+        },
     }
 }
 
@@ -62,20 +68,20 @@ fn length_of(low: u8, high: u8) -> usize
     low as usize + 256 * (high as usize)
 }
 
-// Reads from standard input, where a tape stands behind its length in two bytes, the next tape; answers how many bytes it has, or 65,536 at the end of the input.
-pub fn next_tape(buf: &mut [u8]) -> usize
+// Reads the next tape from where each stands behind its length in two bytes; answers how many bytes it has, or 65,536 at the end of the input.
+pub fn next_tape<R: Read>(from: &mut R, buf: &mut [u8]) -> usize
     ensures bound { (result ≡ 65536 → ⊥) → result ≤ length buf.old }
     ensures read { NextTape buf.old buf.new result }
 {
     let mut head = [0u8; 2];
-    if io::read_full(0, &mut head) < 2 {
+    if streams::read_full(from, &mut head) < 2 {
         return 65536;
     }
     let n = length_of(head[0], head[1]);
     if buf.len() < n {
         return 65536;
     }
-    if io::read_full(0, &mut buf[..n]) < n {
+    if streams::read_full(from, &mut buf[..n]) < n {
         return 65536;
     }
     n

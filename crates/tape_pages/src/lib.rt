@@ -1,5 +1,5 @@
 // What the programs share that make a page of a tape (trail_sheet, trail_story): their arguments, the pool, and the tape's records by their places in the file. For programs: which bytes a
-// call of C's reads no contract can say. What is decided of them, and what is left, is said by the definitions of specs/.
+// file gives no contract can say. What is decided of them, and what is left, is said by the definitions of specs/.
 #![tactic(auto)]
 
 ghost use Rattle.std.specs.Prelude.{◌≡◌, ◌&&◌, ◌≤◌, max, length};
@@ -9,6 +9,8 @@ ghost use Rattle.tape_pages.specs.Opening.{not_opened, Opens};
 ghost use Rattle.tape_pages.specs.Records.{Stands};
 
 use pool_file::Loaded;
+use std::os::unix::fs::FileExt;
+use std::rt::{Env, Files};
 use tape::reader::{Cursor, Read};
 
 // ---- arguments
@@ -42,50 +44,50 @@ fn places_of(count: usize, a: &[u8], b: &[u8]) -> Places
     Places { tape: 0, pool: 0 }
 }
 
-fn named() -> Places {
-    let mut a = io::buffer();
-    let n = os::arg(1, &mut a);
-    let mut b = io::buffer();
-    let m = os::arg(2, &mut b);
-    places_of(os::arg_count(), &a[..n], &b[..m])
+fn named<E: Env>(env: &E) -> Places {
+    let mut a = [0u8; 4096];
+    let n = streams::argument(env, 1, &mut a);
+    let mut b = [0u8; 4096];
+    let m = streams::argument(env, 2, &mut b);
+    places_of(streams::argument_count(env), &a[..n], &b[..m])
 }
 
 // What a program is called, and what it does with a tape.
-fn usage(who: &[u8], what: &[u8]) {
-    io::write_all(2, b"usage: ");
-    io::write_all(2, who);
-    io::write_all(2, b" TAPE [--pool FILE]\n");
-    io::write_all(2, what);
-    io::write_all(2, &pool_file::option_line());
+fn usage<E: Eprint>(rt: &E, who: &[u8], what: &[u8]) {
+    streams::say(rt, b"usage: ");
+    streams::say(rt, who);
+    streams::say(rt, b" TAPE [--pool FILE]\n");
+    streams::say(rt, what);
+    streams::say(rt, &pool_file::option_line());
 }
 
 // The pool of the file that an argument names, or document 01's.
-fn load(argument: usize, pool: &mut [f32]) -> Loaded
+fn load<R: Files + Env + Eprint + Alloc>(rt: &R, argument: usize, pool: &mut [f32]) -> Loaded
     ensures bound { result.count ≤ length pool.old }
     ensures lent { Loads pool.old pool.new result }
 {
     if argument == 0 {
         return pool_file::put_trail_pool(pool);
     }
-    let mut path = io::buffer();
-    let n = os::arg(argument, &mut path);
-    pool_file::load(&path[..n], pool)
+    let mut path = [0u8; 4096];
+    let n = streams::argument(rt, argument, &mut path);
+    pool_file::load(rt, &path[..n], pool)
 }
 
 // An open tape, the length of its name, and how many samples the pool has; `good` where it can be played.
-#[derive(Clone, Copy)]
-pub struct Opened {
-    pub fd: i32,
+#[derive(Drop)]
+pub struct Opened<F> {
+    pub file: Option<F>,
     pub name: usize,
     pub count: usize,
     pub good: bool,
 }
 
-fn not_opened() -> Opened
+fn not_opened<F>() -> Opened<F>
     ensures { result ≡ not_opened }
 {
     Opened {
-        fd: -1,
+        file: None,
         name: 0,
         count: 0,
         good: false,
@@ -93,56 +95,66 @@ fn not_opened() -> Opened
 }
 
 // Opens the tape that the program's arguments name, with its name in `name` and the pool in `pool`. What is wrong is said on standard error.
-pub fn open(who: &[u8], what: &[u8], name: &mut [u8], pool: &mut [f32]) -> Opened
+pub fn open<R: Files + Env + Eprint + Alloc>(
+    rt: &R,
+    who: &[u8],
+    what: &[u8],
+    name: &mut [u8],
+    pool: &mut [f32],
+) -> Opened<R::File>
     ensures name { result.name ≤ length name.old }
     ensures count { result.count ≤ length pool.old }
     ensures lent { Opens pool.old pool.new result }
 {
-    let places = named();
+    let places = named(rt);
     if places.tape == 0 {
-        usage(who, what);
+        usage(rt, who, what);
         return not_opened();
     }
-    let n = os::arg(places.tape, name);
-    let loaded = load(places.pool, pool);
+    let n = streams::argument(rt, places.tape, name);
+    let loaded = load(rt, places.pool, pool);
     if !loaded.good {
         return not_opened();
     }
-    let fd = os::open_read(&name[..n]);
-    if fd < 0 {
-        os::fail(&name[..n]);
-        return not_opened();
-    }
-    Opened {
-        fd,
-        name: n,
-        count: loaded.count,
-        good: true,
+    match streams::open(rt, &name[..n]) {
+        Ok(file) => Opened {
+            file: Some(file),
+            name: n,
+            count: loaded.count,
+            good: true,
+        },
+        Err(error) => {
+            streams::fail(rt, &name[..n], &error);
+            not_opened()
+        }
     }
 }
 
 // ---- records
 
 // The record at a place of the file: its first 64 bytes are read, and a record needs no more than 47 (tape, specs/Window). `next.at` is the record's length. A failed read counts as the tape's end.
-pub fn record(who: &[u8], fd: i32, at: u64, first: bool) -> Read
+pub fn record<E: Eprint, F: FileExt>(
+    rt: &E,
+    who: &[u8],
+    file: &F,
+    at: u64,
+    first: bool,
+) -> Read
     ensures { Stands first result }
 {
     if 0x7fff_ffff_ffff_ffff < at {
         return Read::End;
     }
     let mut buf = [0u8; 64];
-    let got = libc::pread(fd, &mut buf, at as i64);
-    if got < 0 {
-        io::write_all(2, who);
-        io::write_all(2, b": the tape cannot be read on\n");
-        return Read::End;
-    }
-    let n = io::count(got, &buf);
     let c = Cursor { at: 0, first };
-    if n <= 64 {
-        return c.read(&buf[..n]);
+    match file.read_at(&mut buf, at) {
+        Ok(n) => c.read(&buf[..n]),
+        Err(_) => {
+            streams::say(rt, who);
+            streams::say(rt, b": the tape cannot be read on\n");
+            Read::End
+        }
     }
-    Read::End
 }
 
 // ---- small values

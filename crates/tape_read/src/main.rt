@@ -4,7 +4,9 @@
 
 ghost use Rattle.std.specs.Prelude.{◌+◌, ◌≤◌, length};
 
-use tape::reader::{Cursor, Read};
+use std::io::{IsTerminal, Read};
+use tape::reader;
+use tape::reader::Cursor;
 use tape_writer::{Arguments, Written, calls};
 
 // Whether `bytes` begins with the first n of `a`.
@@ -55,21 +57,21 @@ fn fill(record: &mut [u8], bytes: &[u8]) -> usize
 }
 
 // The first bytes as they are, up to 112; answers how many, 0 where they cannot be written.
-fn put_piece(bytes: &[u8]) -> usize
+fn put_piece<R: Print>(rt: &R, bytes: &[u8]) -> usize
     ensures { result ≤ length bytes.now }
 {
     let mut record = [0u8; 120];
     let n = fill(&mut record, bytes);
     record[0] = n as u8;
     record[1] = 1;
-    if io::write_all(1, &record) { n } else { 0 }
+    if rt.write_all(&record).is_ok() { n } else { 0 }
 }
 
 // All the bytes as they are. False where they cannot be written.
-fn put_bytes(bytes: &[u8]) -> bool {
+fn put_bytes<R: Print>(rt: &R, bytes: &[u8]) -> bool {
     let mut from: usize = 0;
     while from < bytes.len() {
-        let n = put_piece(&bytes[from..]);
+        let n = put_piece(rt, &bytes[from..]);
         if n == 0 {
             return false;
         }
@@ -79,49 +81,53 @@ fn put_bytes(bytes: &[u8]) -> bool {
 }
 
 // A record's arguments, or its bytes. False where they cannot be written.
-fn put_record(a: Arguments, bytes: &[u8]) -> bool {
+fn put_record<R: Print>(rt: &R, a: Arguments, bytes: &[u8]) -> bool {
     if is_own(a, bytes) {
         let record = argument_records::put(a);
-        return io::write_all(1, &record);
+        return rt.write_all(&record).is_ok();
     }
-    put_bytes(bytes)
+    put_bytes(rt, bytes)
 }
 
 // The bytes from `from` up to `to`, which are a record.
-fn put(a: Arguments, buf: &[u8], from: usize, to: usize) -> bool {
+fn put<R: Print>(rt: &R, a: Arguments, buf: &[u8], from: usize, to: usize) -> bool {
     if to < from {
         return false;
     }
     if buf.len() < to {
         return false;
     }
-    put_record(a, &buf[from..to])
+    put_record(rt, a, &buf[from..to])
 }
 
-fn cannot_write() {
-    io::write_all(2, b"tape_read: standard output cannot be written\n");
+fn cannot_write<E: Eprint>(rt: &E) {
+    streams::say(rt, b"tape_read: standard output cannot be written\n");
 }
 
-fn cannot_read() {
-    io::write_all(2, b"tape_read: standard input cannot be read\n");
+fn cannot_read<E: Eprint>(rt: &E) {
+    streams::say(rt, b"tape_read: standard input cannot be read\n");
 }
 
 // The rest of the tape, from `at` on, as it is.
-fn put_rest(buf: &mut [u8], at: usize, have: usize) {
+fn put_rest<R: Print + Eprint, I: Read>(
+    rt: &R,
+    from: &mut I,
+    buf: &mut [u8],
+    at: usize,
+    have: usize,
+) {
     let mut n = tape_input::shift(buf, at, have);
-    let mut turns = u64::MAX;
-    while turns > 0 {
-        turns = turns - 1;
+    for _ in 0..u64::MAX {
         if buf.len() < n {
             return;
         }
-        if !put_bytes(&buf[..n]) {
-            cannot_write();
+        if !put_bytes(rt, &buf[..n]) {
+            cannot_write(rt);
             return;
         }
-        let came = tape_input::read_on(0, buf, 0);
+        let came = tape_input::read_on(from, buf, 0);
         if came.failed {
-            cannot_read();
+            cannot_read(rt);
             return;
         }
         n = came.count;
@@ -132,24 +138,23 @@ fn put_rest(buf: &mut [u8], at: usize, have: usize) {
 }
 
 // Reads the tape that standard input has.
-fn read_tape() {
-    let mut buf = io::large_buffer();
+fn read_tape<R: Input + Print + Eprint>(rt: &R) {
+    let mut from = rt.reader();
+    let mut buf = [0u8; 65536];
     let mut first = true;
     let mut at: usize = 0;
     let mut have: usize = 0;
     let mut whole = false;
-    let mut turns = u64::MAX;
-    while turns > 0 {
-        turns = turns - 1;
+    for _ in 0..u64::MAX {
         if whole || tape_input::enough(at, have) {
             let c = Cursor { at, first };
             let r = c.read(&buf[..have]);
-            let Read::Record { kind, call, next } = r else {
-                put_rest(&mut buf, at, have);
+            let reader::Read::Record { kind, call, next } = r else {
+                put_rest(rt, &mut from, &mut buf, at, have);
                 return;
             };
-            if !put(calls::arguments_of(kind, call), &buf, at, next.at) {
-                cannot_write();
+            if !put(rt, calls::arguments_of(kind, call), &buf, at, next.at) {
+                cannot_write(rt);
                 return;
             }
             first = next.first;
@@ -157,9 +162,9 @@ fn read_tape() {
         } else {
             have = tape_input::shift(&mut buf, at, have);
             at = 0;
-            let came = tape_input::read_on(0, &mut buf, have);
+            let came = tape_input::read_on(&mut from, &mut buf, have);
             if came.failed {
-                cannot_read();
+                cannot_read(rt);
                 return;
             }
             whole = came.count == 0;
@@ -169,13 +174,13 @@ fn read_tape() {
 }
 
 // There are no arguments, and on a terminal nothing could be read: there the usage is all.
-fn main() {
-    if libc::isatty(0) == 1 || 1 < os::arg_count() {
-        io::write_all(
-            2,
+fn main(rt: HostRuntime) {
+    if rt.stdin().is_terminal() || 1 < streams::argument_count(&rt) {
+        streams::say(
+            &rt,
             b"usage: tape_read <TAPE >ARGUMENTS\nTakes the tape on standard input apart: for each record its arguments, 120 bytes.\ndocs/HANDBOOK.md says what a tape is; tape_text makes one from text.\n",
         );
         return;
     }
-    read_tape();
+    read_tape(&rt);
 }

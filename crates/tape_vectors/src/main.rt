@@ -3,7 +3,10 @@
 
 use digests::{mixed, mixed_bytes};
 use sequencer::Counts;
-use tape::reader::{Cursor, Read};
+use std::io;
+use std::io::{BufReader, BufWriter, Read, Write};
+use tape::reader;
+use tape::reader::Cursor;
 
 fn mixed_samples(digest: u64, samples: &[f32]) -> u64 {
     let mut d = digest;
@@ -57,14 +60,14 @@ struct Played {
 }
 
 // A tape's end, or the record that 14 or 15 refuses.
-fn stopped(p: Played, r: Read, counts: Counts) -> Played {
+fn stopped(p: Played, r: reader::Read, counts: Counts) -> Played {
     match r {
-        Read::Refused { kind, number } => Played {
+        reader::Read::Refused { kind, number } => Played {
             records: std::num::wrapping_add_u64(p.records, 1),
             digest: mixed_counts(p.digest, kind, number as u64, counts),
         },
-        Read::End => p,
-        Read::Record {
+        reader::Read::End => p,
+        reader::Read::Record {
             kind: _,
             call: _,
             next: _,
@@ -84,7 +87,7 @@ fn play(tape: &[u8], pool: &[f32]) -> Played {
     while turns > 0 {
         turns = turns - 1;
         let r = c.read(tape);
-        let Read::Record { kind, call, next } = r else {
+        let reader::Read::Record { kind, call, next } = r else {
             return stopped(p, r, s.counts());
         };
         let a = apply::apply(s, call, pool, &mut samples);
@@ -100,33 +103,34 @@ fn play(tape: &[u8], pool: &[f32]) -> Played {
     p
 }
 
-fn print_line(p: Played, count: usize, digest: u64) {
-    io::print_decimal(1, p.records);
-    io::write_all(1, b" ");
-    io::print_hex(1, p.digest, 16);
-    io::write_all(1, b" ");
-    io::print_decimal(1, count as u64);
-    io::write_all(1, b" ");
-    io::print_hex(1, digest, 16);
-    io::write_all(1, b"\n");
+fn print_line<W: Write>(out: &mut W, p: Played, count: usize, digest: u64) -> io::Result<()> {
+    let records = p.records;
+    let played = p.digest;
+    write!(out, "{records} {played:016x} {count} {digest:016x}\n")
 }
 
-fn main() {
-    let mut buf = io::large_buffer();
-    let mut out = io::large_buffer();
+fn play_all<R: Read, W: Write>(from: &mut R, to: &mut W) -> io::Result<()> {
+    let mut buf = [0u8; 65536];
+    let mut out = [0u8; 65536];
     let pool = tape::pool::trail_pool();
-    let mut turns: u64 = 1000;
-    while turns > 0 {
-        turns = turns - 1;
-        let n = tape_input::next_tape(&mut buf);
+    for _ in 0..1000 {
+        let n = tape_input::next_tape(from, &mut buf);
         if 65536 <= n {
-            return;
+            return Ok(());
         }
         let p = play(&buf[..n], &pool);
         let count = render::render(&buf[..n], &mut out);
         if 65536 < count {
-            return;
+            return Ok(());
         }
-        print_line(p, count, mixed_bytes(&out[..count]));
+        print_line(to, p, count, mixed_bytes(&out[..count]))?;
     }
+    Ok(())
+}
+
+fn main(rt: HostRuntime) -> io::Result<()> {
+    let mut from = BufReader::new(rt.alloc(), rt.stdin())?;
+    let mut out = BufWriter::new(rt.alloc(), rt.stdout())?;
+    play_all(&mut from, &mut out)?;
+    out.flush()
 }

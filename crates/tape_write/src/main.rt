@@ -4,14 +4,12 @@
 
 ghost use Rattle.std.specs.Prelude.{◌+◌, ◌≤◌, length};
 
+use std::io;
+use std::io::{BufReader, IsTerminal, Read};
 use tape_writer::Written;
 
-fn say_refusal(number: u64, record: u64) {
-    io::write_all(2, b"tape_write: record ");
-    io::print_decimal(2, record);
-    io::write_all(2, b": refusal ");
-    io::print_decimal(2, number);
-    io::write_all(2, b"\n");
+fn say_refusal<E: Eprint>(rt: &E, number: u64, record: u64) {
+    let _ = eprint!(rt; "tape_write: record {record}: refusal {number}\n");
 }
 
 // Puts the first n bytes of `bytes` at a place, and answers the next free one.
@@ -48,35 +46,34 @@ fn put_record(asked: &[u8], out: &mut [u8], at: usize) -> Written {
 }
 
 // Writes the first `used` bytes.
-fn write_out(out: &[u8], used: usize) -> bool {
+fn write_out<R: Print + Eprint>(rt: &R, out: &[u8], used: usize) -> bool {
     if out.len() < used {
         return false;
     }
-    if io::write_all(1, &out[..used]) {
+    if rt.write_all(&out[..used]).is_ok() {
         return true;
     }
-    io::write_all(2, b"tape_write: standard output cannot be written\n");
+    streams::say(rt, b"tape_write: standard output cannot be written\n");
     false
 }
 
 // Writes the tape whose arguments standard input has.
-fn write_tape() {
-    let mut out = io::large_buffer();
+fn write_tape<R: Print + Eprint, I: Read>(rt: &R, from: &mut I) {
+    let mut out = [0u8; 65536];
     let mut asked = [0u8; 120];
     let mut used: usize = 0;
-    let mut record: u64 = 0;
-    while record < u64::MAX {
-        record = record + 1;
-        let n = io::read_full(0, &mut asked);
+    for before in 0..u64::MAX {
+        let record = before + 1;
+        let n = streams::read_full(from, &mut asked);
         if n < 120 {
             if n != 0 {
-                io::write_all(2, b"tape_write: the last arguments are cut\n");
+                streams::say(rt, b"tape_write: the last arguments are cut\n");
             }
-            write_out(&out, used);
+            write_out(rt, &out, used);
             return;
         }
         if 65400 < used {
-            if !write_out(&out, used) {
+            if !write_out(rt, &out, used) {
                 return;
             }
             used = 0;
@@ -87,8 +84,8 @@ fn write_tape() {
                 used = place;
             }
             Written::Refused(number) => {
-                write_out(&out, used);
-                say_refusal(number, record);
+                write_out(rt, &out, used);
+                say_refusal(rt, number, record);
                 return;
             }
         }
@@ -96,13 +93,15 @@ fn write_tape() {
 }
 
 // There are no arguments, and on a terminal nothing could be read: there the usage is all.
-fn main() {
-    if libc::isatty(0) == 1 || 1 < os::arg_count() {
-        io::write_all(
-            2,
+fn main(rt: HostRuntime) -> io::Result<()> {
+    if rt.stdin().is_terminal() || 1 < streams::argument_count(&rt) {
+        streams::say(
+            &rt,
             b"usage: tape_write <ARGUMENTS >TAPE\nPuts a tape together from the arguments on standard input, 120 bytes a record.\ndocs/HANDBOOK.md says what a tape is; tape_text makes one from text.\n",
         );
-        return;
+        return Ok(());
     }
-    write_tape();
+    let mut from = BufReader::new(rt.alloc(), rt.stdin())?;
+    write_tape(&rt, &mut from);
+    Ok(())
 }

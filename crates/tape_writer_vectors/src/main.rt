@@ -7,27 +7,24 @@
 ghost use Rattle.std.specs.Prelude.{◌≤◌};
 
 use digests::mixed_bytes;
+use std::io;
+use std::io::{BufReader, BufWriter, Read, Write};
 use tape::fields;
-use tape::reader::{Cursor, Read};
+use tape::reader;
+use tape::reader::Cursor;
 use tape_writer::{Arguments, Written, calls};
 
-fn print_bytes(bytes: &[u8]) {
-    let mut i: usize = 0;
-    while i < bytes.len() {
-        io::print_hex(1, bytes[i] as u64, 2);
-        i = i + 1;
+fn print_bytes<W: Write>(out: &mut W, bytes: &[u8]) -> io::Result<()> {
+    for b in bytes {
+        write!(out, "{b:02x}")?;
     }
+    Ok(())
 }
 
-fn print_answer(w: Written) {
+fn print_answer<W: Write>(out: &mut W, w: Written) -> io::Result<()> {
     match w {
-        Written::Next(place) => {
-            io::print_decimal(1, place as u64);
-        }
-        Written::Refused(number) => {
-            io::write_all(1, b"refused ");
-            io::print_decimal(1, number);
-        }
+        Written::Next(place) => write!(out, "{place}"),
+        Written::Refused(number) => write!(out, "refused {number}"),
     }
 }
 
@@ -38,24 +35,25 @@ fn within(n: u32) -> usize
 }
 
 // Writes the record, and prints the answer and the buffer.
-fn show(a: Arguments, buf: &mut [u8], at: usize) -> bool {
-    print_answer(tape_writer::write(a, buf, at));
-    io::write_all(1, b" ");
-    print_bytes(buf);
-    io::write_all(1, b"\n")
+fn show<W: Write>(out: &mut W, a: Arguments, buf: &mut [u8], at: usize) -> io::Result<()> {
+    print_answer(out, tape_writer::write(a, buf, at))?;
+    out.write_all(b" ")?;
+    print_bytes(out, buf)?;
+    out.write_all(b"\n")
 }
 
 // One request; false at the end of the input.
-fn write_one() -> bool {
+fn write_one<R: Read, W: Write>(from: &mut R, out: &mut W) -> io::Result<bool> {
     let mut request = [0u8; 128];
-    if io::read_full(0, &mut request) < 128 {
-        return false;
+    if streams::read_full(from, &mut request) < 128 {
+        return Ok(false);
     }
     let a = argument_records::get(&request);
     let at = fields::word64(&request, 120) as usize;
     let n = within(fields::word32(&request, 100));
     let mut buf = [0xEEu8; 64];
-    show(a, &mut buf[0..n], at)
+    show(out, a, &mut buf[0..n], at)?;
+    Ok(true)
 }
 
 // Reads each record of the tape and writes it again at its own place; the place where that ended.
@@ -66,7 +64,7 @@ fn rewrite(tape: &[u8], out: &mut [u8]) -> usize {
         turns = turns - 1;
         let at = c.at;
         let r = c.read(tape);
-        let Read::Record { kind, call, next } = r else {
+        let reader::Read::Record { kind, call, next } = r else {
             return at;
         };
         let w = tape_writer::write(calls::arguments_of(kind, call), out, at);
@@ -78,46 +76,48 @@ fn rewrite(tape: &[u8], out: &mut [u8]) -> usize {
     c.at
 }
 
-fn print_line(place: usize, digest: u64) -> bool {
-    io::print_decimal(1, place as u64);
-    io::write_all(1, b" ");
-    io::print_hex(1, digest, 16);
-    io::write_all(1, b"\n")
+fn print_line<W: Write>(out: &mut W, place: usize, digest: u64) -> io::Result<()> {
+    write!(out, "{place} {digest:016x}\n")
 }
 
-fn count() -> u32 {
+fn count<R: Read>(from: &mut R) -> u32 {
     let mut head = [0u8; 4];
-    if io::read_full(0, &mut head) < 4 {
+    if streams::read_full(from, &mut head) < 4 {
         return 0;
     }
     fields::word32(&head, 0)
 }
 
-fn write_all() {
-    let mut turns = count();
-    while turns > 0 {
-        if !write_one() {
-            return;
+fn write_all<R: Read, W: Write>(from: &mut R, out: &mut W) -> io::Result<()> {
+    for _ in 0..count(from) {
+        if !write_one(from, out)? {
+            return Ok(());
         }
-        turns = turns - 1;
     }
+    Ok(())
 }
 
-fn main() {
-    write_all();
-    let mut buf = io::large_buffer();
-    let mut out = io::large_buffer();
-    let mut turns: u64 = 1000;
-    while turns > 0 {
-        turns = turns - 1;
-        let n = tape_input::next_tape(&mut buf);
+fn rewrite_all<R: Read, W: Write>(from: &mut R, to: &mut W) -> io::Result<()> {
+    let mut buf = [0u8; 65536];
+    let mut out = [0u8; 65536];
+    for _ in 0..1000 {
+        let n = tape_input::next_tape(from, &mut buf);
         if 65536 <= n {
-            return;
+            return Ok(());
         }
         let place = rewrite(&buf[..n], &mut out);
         if 65536 < place {
-            return;
+            return Ok(());
         }
-        print_line(place, mixed_bytes(&out[..place]));
+        print_line(to, place, mixed_bytes(&out[..place]))?;
     }
+    Ok(())
+}
+
+fn main(rt: HostRuntime) -> io::Result<()> {
+    let mut from = BufReader::new(rt.alloc(), rt.stdin())?;
+    let mut out = BufWriter::new(rt.alloc(), rt.stdout())?;
+    write_all(&mut from, &mut out)?;
+    rewrite_all(&mut from, &mut out)?;
+    out.flush()
 }

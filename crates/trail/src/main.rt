@@ -7,17 +7,19 @@ ghost use Rattle.std.specs.Prelude.{◌≡◌, ◌≤◌, length};
 mod say;
 
 use record_output::{Form, Pause};
+use std::io::{IsTerminal, Read};
+use std::rt::{Env, Files};
 use tape::reader::Cursor;
 
 // Writes the first `used` bytes of the text; false where they were not written.
-fn write_out(text: &[u8], used: usize) -> bool {
+fn write_out<R: Print + Eprint>(rt: &R, text: &[u8], used: usize) -> bool {
     if text.len() < used {
         return false;
     }
-    if io::write_all(1, &text[..used]) {
+    if rt.write_all(&text[..used]).is_ok() {
         return true;
     }
-    io::write_all(2, b"trail: standard output cannot be written\n");
+    streams::say(rt, b"trail: standard output cannot be written\n");
     false
 }
 
@@ -29,14 +31,20 @@ struct Hand {
 }
 
 // Drops the first `at` of the bytes at hand, and reads more behind the others.
-fn read_more(buf: &mut [u8], at: usize, have: usize) -> Hand
+fn read_more<E: Eprint, R: Read>(
+    rt: &E,
+    from: &mut R,
+    buf: &mut [u8],
+    at: usize,
+    have: usize,
+) -> Hand
     ensures buf_len_unchanged { length buf.new ≡ length buf.old }
     ensures have_in_bounds { result.have ≤ length buf.old }
 {
     let kept = tape_input::shift(buf, at, have);
-    let came = tape_input::read_on(0, buf, kept);
+    let came = tape_input::read_on(from, buf, kept);
     if came.failed {
-        io::write_all(2, b"trail: standard input cannot be read\n");
+        streams::say(rt, b"trail: standard input cannot be read\n");
     }
     Hand {
         have: kept + came.count,
@@ -45,9 +53,10 @@ fn read_more(buf: &mut [u8], at: usize, have: usize) -> Hand
 }
 
 // Lists the tape that standard input has. The engine stays in four arrays, in which each call of `run` goes on.
-fn list(pool: &[f32]) {
-    let mut buf = io::large_buffer();
-    let mut text = io::large_buffer();
+fn list<R: Input + Print + Eprint>(rt: &R, pool: &[f32]) {
+    let mut from = rt.reader();
+    let mut buf = [0u8; 65536];
+    let mut text = [0u8; 65536];
     let mut times = player::blank_times();
     let mut levels = player::blank_levels();
     let mut marks = player::blank_marks();
@@ -56,9 +65,7 @@ fn list(pool: &[f32]) {
     let mut cursor = Cursor { at: 0, first: true };
     let mut have: usize = 0;
     let mut whole = false;
-    let mut turns = u64::MAX;
-    while turns > 0 {
-        turns = turns - 1;
+    for _ in 0..u64::MAX {
         let p = player::run(
             &mut times,
             &mut levels,
@@ -75,27 +82,27 @@ fn list(pool: &[f32]) {
         let pause = p.pause;
         match pause {
             Pause::Full => {
-                if !write_out(&text, p.used) {
+                if !write_out(rt, &text, p.used) {
                     return;
                 }
             }
             Pause::Short => {
-                if !write_out(&text, p.used) {
+                if !write_out(rt, &text, p.used) {
                     return;
                 }
-                let hand = read_more(&mut buf, cursor.at, have);
+                let hand = read_more(rt, &mut from, &mut buf, cursor.at, have);
                 let first = cursor.first;
                 cursor = Cursor { at: 0, first };
                 have = hand.have;
                 whole = hand.whole;
             }
             Pause::Refused(number) => {
-                write_out(&text, p.used);
-                say::refusal(number as u64);
+                write_out(rt, &text, p.used);
+                say::refusal(rt, number as u64);
                 return;
             }
             Pause::End => {
-                write_out(&text, p.used);
+                write_out(rt, &text, p.used);
                 return;
             }
         }
@@ -103,49 +110,47 @@ fn list(pool: &[f32]) {
 }
 
 // With the pool that a file has.
-fn list_with_pool(path: &[u8]) {
+fn list_with_pool<R: Input + Files + Print + Eprint + Alloc>(rt: &R, path: &[u8]) {
     let mut pool = pool_file::room();
-    let loaded = pool_file::load(path, &mut pool);
+    let loaded = pool_file::load(rt, path, &mut pool);
     if !loaded.good {
         return;
     }
     let n = loaded.count;
     if n <= 262144 {
-        list(&pool[..n]);
+        list(rt, &pool[..n]);
     }
 }
 
 // `--pool FILE`; anything else is answered by the usage.
-fn list_with_arguments() {
-    if os::arg_count() != 3 {
-        say::usage();
+fn list_with_arguments<R: Input + Files + Env + Print + Eprint + Alloc>(rt: &R) {
+    if streams::argument_count(rt) != 3 {
+        say::usage(rt);
         return;
     }
-    let mut word = io::buffer();
-    let n = os::arg(1, &mut word);
+    let mut word = [0u8; 4096];
+    let n = streams::argument(rt, 1, &mut word);
     if !pool_file::is_option(&word[..n]) {
-        say::usage();
+        say::usage(rt);
         return;
     }
-    let mut path = io::buffer();
-    let m = os::arg(2, &mut path);
-    if os::errno() != 0 {
-        os::fail(b"trail: FILE");
-        return;
+    let mut path = [0u8; 4096];
+    match rt.arg(2, &mut path) {
+        Ok(m) => list_with_pool(rt, &path[..m]),
+        Err(why) => streams::fail(rt, b"trail: FILE", &streams::no_argument(why)),
     }
-    list_with_pool(&path[..m]);
 }
 
 // Document 01's listing takes no argument; on a terminal nothing could be read.
-fn main() {
-    if libc::isatty(0) == 1 {
-        say::usage();
+fn main(rt: HostRuntime) {
+    if rt.stdin().is_terminal() {
+        say::usage(&rt);
         return;
     }
-    if 1 < os::arg_count() {
-        list_with_arguments();
+    if 1 < streams::argument_count(&rt) {
+        list_with_arguments(&rt);
         return;
     }
     let pool = tape::pool::trail_pool();
-    list(&pool);
+    list(&rt, &pool);
 }

@@ -10,6 +10,9 @@ use event::EventId;
 use memory::{Levels, Marks, Numbers, Times};
 use overlap::{FirstWaiting, Found};
 use runs::least;
+use std::io;
+use std::io::{BufWriter, Write};
+use std::rt::Env;
 use tape::reader::{Cursor, Read};
 
 // ---- arguments
@@ -64,9 +67,9 @@ fn signed_seconds(text: &[u8]) -> f64 {
 }
 
 // Argument i. A missing one, or one that is too long, is empty.
-fn argument(i: usize) -> f64 {
+fn argument<E: Env>(env: &E, i: usize) -> f64 {
     let mut text = [0u8; 32];
-    let n = os::arg(i, &mut text);
+    let n = streams::argument(env, i, &mut text);
     if n <= 32 {
         signed_seconds(&text[..n])
     } else {
@@ -74,14 +77,14 @@ fn argument(i: usize) -> f64 {
     }
 }
 
-fn is_length_given() -> bool {
-    os::arg_count() == 4
+fn is_length_given<E: Env>(env: &E) -> bool {
+    streams::argument_count(env) == 4
 }
 
 // The slice's length.
-fn slice_length() -> usize {
-    if is_length_given() {
-        let nearest = floats::sample_index(argument(3) * 1000.0);
+fn slice_length<E: Env>(env: &E) -> usize {
+    if is_length_given(env) {
+        let nearest = floats::sample_index(argument(env, 3) * 1000.0);
         return least(nearest.index as usize, 512);
     }
     256
@@ -143,23 +146,24 @@ fn play(
 
 // ---- what is printed
 
-fn line(n: u64) {
-    io::print_decimal(1, n);
-    io::write_all(1, b"\n");
+fn line<W: Write>(out: &mut W, n: u64) -> io::Result<()> {
+    write!(out, "{n}\n")
 }
 
-fn list_numbers(numbers: &[u64], n: usize) {
+fn list_numbers<W: Write>(out: &mut W, numbers: &[u64], n: usize) -> io::Result<()> {
     let mut i = 0;
     while i < n {
         if numbers.len() <= i {
-            return;
+            return Ok(());
         }
-        line(numbers[i]);
+        line(out, numbers[i])?;
         i = i + 1;
     }
+    Ok(())
 }
 
-fn list_clips(
+fn list_clips<W: Write>(
+    to_print: &mut W,
     times: &Times,
     levels: &Levels,
     marks: &Marks,
@@ -167,17 +171,16 @@ fn list_clips(
     from: f64,
     to: f64,
     out: &mut [u64],
-) {
+) -> io::Result<()> {
     let found = overlap::clips(times, levels, marks, numbers, from, to, out);
     match found {
         Found::Clips(n) => {
-            io::write_all(1, b"clips ");
-            line(n as u64);
-            list_numbers(out, n)
+            write!(to_print, "clips {n}\n")?;
+            list_numbers(to_print, out, n)
         }
         Found::Refused(n) => {
-            io::write_all(1, b"clips refused ");
-            line(n)
+            to_print.write_all(b"clips refused ")?;
+            line(to_print, n)
         }
     }
 }
@@ -212,7 +215,8 @@ fn count_left(row: &[u64], n: usize) -> u64 {
 }
 
 // Lists the clips by a slice of `length` numbers, the front of the row.
-fn list_by_slice(
+fn list_by_slice<W: Write>(
+    out: &mut W,
     times: &Times,
     levels: &Levels,
     marks: &Marks,
@@ -221,39 +225,46 @@ fn list_by_slice(
     to: f64,
     row: &mut [u64],
     length: usize,
-) {
+) -> io::Result<()> {
     mark_all(row);
     if length <= row.len() {
-        list_clips(times, levels, marks, numbers, from, to, &mut row[..length]);
+        list_clips(out, times, levels, marks, numbers, from, to, &mut row[..length])?;
     }
+    Ok(())
 }
 
-fn list_left(row: &[u64], length: usize) {
-    if is_length_given() {
-        io::write_all(1, b"left ");
-        line(count_left(row, length));
+fn list_left<W: Write>(out: &mut W, given: bool, row: &[u64], length: usize) -> io::Result<()> {
+    if given {
+        out.write_all(b"left ")?;
+        line(out, count_left(row, length))?;
     }
+    Ok(())
 }
 
-fn list_first(times: &Times, levels: &Levels, marks: &Marks, numbers: &Numbers, time: f64) {
+fn list_first<W: Write>(
+    out: &mut W,
+    times: &Times,
+    levels: &Levels,
+    marks: &Marks,
+    numbers: &Numbers,
+    time: f64,
+) -> io::Result<()> {
     let first = overlap::first_from(times, levels, marks, numbers, time);
     match first {
         FirstWaiting::Number(id) => {
-            io::write_all(1, b"first ");
-            line(id.0)
+            out.write_all(b"first ")?;
+            line(out, id.0)
         }
-        FirstWaiting::Nothing => {
-            io::write_all(1, b"first none\n");
-        }
+        FirstWaiting::Nothing => out.write_all(b"first none\n"),
         FirstWaiting::Refused(n) => {
-            io::write_all(1, b"first refused ");
-            line(n)
+            out.write_all(b"first refused ")?;
+            line(out, n)
         }
     }
 }
 
 // Plays the tape and lists what is then held.
-fn list(bytes: &[u8], from: f64, to: f64) {
+fn list<E: Env, W: Write>(env: &E, out: &mut W, bytes: &[u8], from: f64, to: f64) -> io::Result<()> {
     let pool = tape::pool::trail_pool();
     let mut times = blank_times();
     let mut levels = blank_levels();
@@ -267,21 +278,21 @@ fn list(bytes: &[u8], from: f64, to: f64) {
         bytes,
         &pool,
     );
-    let length = slice_length();
+    let length = slice_length(env);
     let mut row = [0u64; 512];
     list_by_slice(
-        &times, &levels, &marks, &numbers, from, to, &mut row, length,
-    );
-    list_first(&times, &levels, &marks, &numbers, from);
-    list_left(&row, length);
+        out, &times, &levels, &marks, &numbers, from, to, &mut row, length,
+    )?;
+    list_first(out, &times, &levels, &marks, &numbers, from)?;
+    list_left(out, is_length_given(env), &row, length)
 }
 
-fn main() {
-    let from = argument(1);
-    let to = argument(2);
-    let mut buf = io::large_buffer();
-    let n = io::read_full(0, &mut buf);
-    if n <= 65536 {
-        list(&buf[..n], from, to);
-    }
+fn main(rt: HostRuntime) -> io::Result<()> {
+    let from = argument(&rt, 1);
+    let to = argument(&rt, 2);
+    let mut buf = [0u8; 65536];
+    let n = streams::read_full(&mut rt.stdin(), &mut buf);
+    let mut out = BufWriter::new(rt.alloc(), rt.stdout())?;
+    list(&rt, &mut out, &buf[..n], from, to)?;
+    out.flush()
 }

@@ -6,6 +6,8 @@ use event::EventId;
 use live::Pushed;
 use memory::{ACTIVE, Levels, Marks, Numbers, ROOM, SOUNDING, Times, event_at};
 use runs::least;
+use std::io;
+use std::io::{BufWriter, Write};
 use tape::reader::{Call, Cursor, PushRecord, Read};
 
 // Arrays that hold an engine without events, before the tape makes its own.
@@ -77,35 +79,40 @@ fn push_duration(
 }
 
 // No push stops the tape.
-fn list_rise(pushed: Pushed) -> bool {
-    io::write_all(1, b"rise ");
-    io::print_decimal(1, pushed.rise as u64);
-    io::write_all(1, b"\n");
-    true
+fn list_rise<W: Write>(out: &mut W, pushed: Pushed) -> io::Result<bool> {
+    let rise = pushed.rise;
+    write!(out, "rise {rise}\n")?;
+    Ok(true)
 }
 
-fn write_number(n: u64) {
-    io::write_all(1, b" ");
-    io::print_decimal(1, n);
+fn write_number<W: Write>(out: &mut W, n: u64) -> io::Result<()> {
+    write!(out, " {n}")
 }
 
 // No tick or block stops the tape.
-fn list_sounding(times: &Times, levels: &Levels, marks: &Marks, numbers: &Numbers) -> bool {
-    io::write_all(1, b"sounds");
+fn list_sounding<W: Write>(
+    out: &mut W,
+    times: &Times,
+    levels: &Levels,
+    marks: &Marks,
+    numbers: &Numbers,
+) -> io::Result<bool> {
+    out.write_all(b"sounds")?;
     let n = least(numbers[SOUNDING] as usize, ROOM);
     let mut i = 0;
     while i < n {
         let event = event_at(times, levels, marks, numbers, ACTIVE + i);
         let id = event.id;
-        write_number(id.0);
+        write_number(out, id.0)?;
         i = i + 1;
     }
-    io::write_all(1, b"\n");
-    true
+    out.write_all(b"\n")?;
+    Ok(true)
 }
 
 // Any record but a push. Only a refused creation stops the tape.
-fn play_other(
+fn play_other<W: Write>(
+    out: &mut W,
     times: &mut Times,
     levels: &mut Levels,
     marks: &mut Marks,
@@ -114,17 +121,18 @@ fn play_other(
     call: Call,
     pool: &[f32],
     samples: &mut [f32],
-) -> bool {
+) -> io::Result<bool> {
     let left = live_apply::carry_out(times, levels, marks, numbers, kind, call, pool, samples);
     match call {
-        Call::Tick => list_sounding(times, levels, marks, numbers),
-        Call::Process(_) => list_sounding(times, levels, marks, numbers),
-        _ => left.refusal != 1,
+        Call::Tick => list_sounding(out, times, levels, marks, numbers),
+        Call::Process(_) => list_sounding(out, times, levels, marks, numbers),
+        _ => Ok(left.refusal != 1),
     }
 }
 
 // Carries a record out and prints its line; whether the tape goes on.
-fn play(
+fn play<W: Write>(
+    out: &mut W,
     times: &mut Times,
     levels: &mut Levels,
     marks: &mut Marks,
@@ -133,16 +141,16 @@ fn play(
     call: Call,
     pool: &[f32],
     samples: &mut [f32],
-) -> bool {
+) -> io::Result<bool> {
     match call {
-        Call::Push(p) => list_rise(push(times, levels, marks, numbers, p)),
-        Call::PushRelative(p) => list_rise(push_relative(times, levels, marks, numbers, p)),
-        Call::PushDuration(p) => list_rise(push_duration(times, levels, marks, numbers, p)),
-        _ => play_other(times, levels, marks, numbers, kind, call, pool, samples),
+        Call::Push(p) => list_rise(out, push(times, levels, marks, numbers, p)),
+        Call::PushRelative(p) => list_rise(out, push_relative(times, levels, marks, numbers, p)),
+        Call::PushDuration(p) => list_rise(out, push_duration(times, levels, marks, numbers, p)),
+        _ => play_other(out, times, levels, marks, numbers, kind, call, pool, samples),
     }
 }
 
-fn run(bytes: &[u8], pool: &[f32]) {
+fn run<W: Write>(out: &mut W, bytes: &[u8], pool: &[f32]) -> io::Result<()> {
     let mut samples = apply::silence();
     let mut times = blank_times();
     let mut levels = blank_levels();
@@ -154,9 +162,10 @@ fn run(bytes: &[u8], pool: &[f32]) {
         turns = turns - 1;
         let r = c.read(bytes);
         let Read::Record { kind, call, next } = r else {
-            return;
+            return Ok(());
         };
         if !play(
+            out,
             &mut times,
             &mut levels,
             &mut marks,
@@ -165,18 +174,19 @@ fn run(bytes: &[u8], pool: &[f32]) {
             call,
             pool,
             &mut samples,
-        ) {
-            return;
+        )? {
+            return Ok(());
         }
         c = next;
     }
+    Ok(())
 }
 
-fn main() {
-    let mut buf = io::large_buffer();
-    let n = io::read_full(0, &mut buf);
-    if n <= 65536 {
-        let pool = tape::pool::trail_pool();
-        run(&buf[..n], &pool);
-    }
+fn main(rt: HostRuntime) -> io::Result<()> {
+    let mut buf = [0u8; 65536];
+    let n = streams::read_full(&mut rt.stdin(), &mut buf);
+    let mut out = BufWriter::new(rt.alloc(), rt.stdout())?;
+    let pool = tape::pool::trail_pool();
+    run(&mut out, &buf[..n], &pool)?;
+    out.flush()
 }

@@ -1,5 +1,5 @@
 // `trail_sheet TAPE > page.svg`: a tape as a page to look at: a lane for each clip, marks for edits and refused calls, the wave of each channel, and the sum. The tape is played twice: once for the page's
-// measures, once to draw. Of what is written no contract speaks, since the kit's io has no model of standard output: the elements are crate tape_sheet, where they stand is crate chart, where a clip
+// measures, once to draw. Of what is written no contract speaks, since std has no model of standard output: the elements are crate tape_sheet, where they stand is crate chart, where a clip
 // stands is crate tape_tracks, and the calls are the engine's.
 #![tactic(auto)]
 
@@ -10,29 +10,35 @@ ghost use Rattle.std.specs.Prelude.{◌≡◌, length};
 
 use page::{LastMark, Page};
 use sequencer::Sequencer;
+use std::io;
+use std::io::{BufWriter, Write};
+use std::os::unix::fs::FileExt;
 use tape::reader::{Call, Read};
 use tape_pages::both;
 
-fn record(fd: i32, at: u64, first: bool) -> Read {
-    tape_pages::record(b"trail_sheet", fd, at, first)
+fn record<E: Eprint, F: FileExt>(rt: &E, file: &F, at: u64, first: bool) -> Read {
+    tape_pages::record(rt, b"trail_sheet", file, at, first)
 }
 
 // ---- clips
 
 // Draws a clip that stands elsewhere than it did, and answers since when it stands where it does. What is let go stands so up to the page's end.
-fn draw_move(page: Page, clip: u64, was: u64, to: u64, from: u64, now: u64) -> u64 {
+fn draw_move<W: Write>(
+    out: &mut W,
+    page: Page, clip: u64, was: u64, to: u64, from: u64, now: u64) -> io::Result<u64> {
     if to == was {
-        return from;
+        return Ok(from);
     }
-    page::segment(page, clip, was, from, now);
+    page::segment(out, page, clip, was, from, now)?;
     if to == tape_tracks::LET_GO {
-        page::segment(page, clip, to, now, page.total);
+        page::segment(out, page, clip, to, now, page.total)?;
     }
-    now
+    Ok(now)
 }
 
 // Where a count has changed, draws how every clip moved, keeps those that are held, and answers how many they are.
-fn follow(
+fn follow<W: Write>(
+    out: &mut W,
     moved: bool,
     page: Page,
     s: Sequencer,
@@ -41,9 +47,9 @@ fn follow(
     since: &mut [u64],
     count: usize,
     now: u64,
-) -> usize {
+) -> io::Result<usize> {
     if !moved {
-        return count;
+        return Ok(count);
     }
     let mut kept = 0;
     let mut i = 0;
@@ -51,24 +57,26 @@ fn follow(
         let clip = tape_tracks::at(clips, i);
         let to = tape_tracks::stands(s, clip);
         let from = draw_move(
+            out,
             page,
             clip,
             tape_tracks::at(places, i),
             to,
             tape_tracks::at(since, i),
             now,
-        );
+        )?;
         tape_tracks::set(clips, kept, clip);
         tape_tracks::set(places, kept, to);
         tape_tracks::set(since, kept, from);
         kept = tape_tracks::next_place(kept, to);
         i = i + 1;
     }
-    kept
+    Ok(kept)
 }
 
 // A clip that was laid is drawn, and held from now on.
-fn enter_if(
+fn enter_if<W: Write>(
+    out: &mut W,
     laid: bool,
     page: Page,
     clips: &mut [u64],
@@ -78,15 +86,15 @@ fn enter_if(
     clip: u64,
     place: u64,
     now: u64,
-) -> usize {
+) -> io::Result<usize> {
     if laid {
-        page::lay(page, clip, place, now);
+        page::lay(out, page, clip, place, now)?;
         tape_tracks::set(clips, count, clip);
         tape_tracks::set(places, count, place);
         tape_tracks::set(since, count, now);
-        return tape_tracks::next_place(count, place);
+        return Ok(tape_tracks::next_place(count, place));
     }
-    count
+    Ok(count)
 }
 
 fn hear_if(
@@ -121,18 +129,22 @@ fn base_if(kind: u8, now: u64, base: u64) -> u64 {
 }
 
 // What is held at the end stands so up to the end.
-fn finish(page: Page, clips: &[u64], places: &[u64], since: &[u64], count: usize) {
+fn finish<W: Write>(
+    out: &mut W,
+    page: Page, clips: &[u64], places: &[u64], since: &[u64], count: usize) -> io::Result<()> {
     let mut i = 0;
     while i < count {
         page::segment(
+            out,
             page,
             tape_tracks::at(clips, i),
             tape_tracks::at(places, i),
             tape_tracks::at(since, i),
             page.total,
-        );
+        )?;
         i = i + 1;
     }
+    Ok(())
 }
 
 fn stop_of(r: Read) -> u64 {
@@ -167,7 +179,8 @@ fn unplayed() -> Played {
 }
 
 // What is known at the tape's end: the page to draw; in drawing, the page is ended.
-fn end_of(
+fn end_of<W: Write>(
+    out: &mut W,
     page: Page,
     t: Played,
     peaks: &[u32],
@@ -175,23 +188,24 @@ fn end_of(
     places: &[u64],
     since: &[u64],
     stop: u64,
-) -> Page {
+) -> io::Result<Page> {
     let s = t.sequencer;
     if page.draw {
-        finish(page, clips, places, since, t.count);
-        page::close(page, s, peaks, t.pushes, stop);
+        finish(out, page, clips, places, since, t.count)?;
+        page::close(out, page, s, peaks, t.pushes, stop)?;
     }
-    Page {
+    Ok(Page {
         draw: true,
         total: chart::later(t.base, chart::micros(s.time)),
         lanes: t.pushes,
         first: t.first,
         channels: s.outputs as u64,
-    }
+    })
 }
 
 // Plays a record, and draws what it changes.
-fn play_record(
+fn play_record<W: Write>(
+    out: &mut W,
     page: Page,
     t: Played,
     kind: u8,
@@ -202,7 +216,7 @@ fn play_record(
     clips: &mut [u64],
     places: &mut [u64],
     since: &mut [u64],
-) -> Played {
+) -> io::Result<Played> {
     let before = t.sequencer;
     let now = chart::later(t.base, chart::micros(before.time));
     let clip = before.next;
@@ -213,9 +227,10 @@ fn play_record(
     let base = base_if(kind, now, t.base);
     let laid = both(refusal == 0, tape::reader::is_push(kind));
     let place = tape_tracks::place_if(laid, s, clip);
-    let count = enter_if(laid, page, clips, places, since, t.count, clip, place, now);
+    let count = enter_if(out, laid, page, clips, places, since, t.count, clip, place, now)?;
     let last = t.mark;
     let mark = page::mark(
+        out,
         page,
         last,
         kind,
@@ -223,12 +238,12 @@ fn play_record(
         refusal,
         told,
         now,
-    );
+    )?;
     let moved = !tape_tracks::is_same(before.counts(), s.counts());
-    let count = follow(moved, page, s, clips, places, since, count, now);
+    let count = follow(out, moved, page, s, clips, places, since, count, now)?;
     let to = chart::later(base, chart::micros(s.time));
     hear_if(page, peaks, samples, a.channels, a.each, a.stride, now, to);
-    Played {
+    Ok(Played {
         sequencer: s,
         count,
         pushes: tape_tracks::one_more_if(laid, t.pushes),
@@ -236,12 +251,14 @@ fn play_record(
         base,
         mark,
         refusal,
-    }
+    })
 }
 
 // Plays the tape. What it answers is the page to draw, of which `total`, `lanes`, `first` and `channels` are known at the end.
-fn play(
-    fd: i32,
+fn play<E: Eprint, F: FileExt, W: Write>(
+    rt: &E,
+    out: &mut W,
+    file: &F,
     page: Page,
     pool: &[f32],
     samples: &mut [f32],
@@ -249,27 +266,26 @@ fn play(
     clips: &mut [u64],
     places: &mut [u64],
     since: &mut [u64],
-) -> Page {
+) -> io::Result<Page> {
     let mut t = unplayed();
     let mut first = true;
     let mut at: u64 = 0;
-    let mut turns = u64::MAX;
-    while turns > 0 {
-        turns = turns - 1;
-        let r = record(fd, at, first);
+    for _ in 0..u64::MAX {
+        let r = record(rt, file, at, first);
         let Read::Record { kind, call, next } = r else {
-            return end_of(page, t, peaks, clips, places, since, stop_of(r));
+            return end_of(out, page, t, peaks, clips, places, since, stop_of(r));
         };
         t = play_record(
+            out,
             page, t, kind, call, pool, samples, peaks, clips, places, since,
-        );
+        )?;
         if t.refusal == 1 {
-            return end_of(page, t, peaks, clips, places, since, 1);
+            return end_of(out, page, t, peaks, clips, places, since, 1);
         }
         first = next.first;
         at = std::num::wrapping_add_u64(at, next.at as u64);
     }
-    page
+    Ok(page)
 }
 
 fn silent_peaks() -> [u32; 11208]
@@ -279,8 +295,10 @@ fn silent_peaks() -> [u32; 11208]
 }
 
 // Two plays: for the page's measures, and to draw it.
-fn draw(
-    fd: i32,
+fn draw<E: Eprint, F: FileExt, W: Write>(
+    rt: &E,
+    out: &mut W,
+    file: &F,
     tape: &[u8],
     pool: &[f32],
     samples: &mut [f32],
@@ -288,7 +306,7 @@ fn draw(
     clips: &mut [u64],
     places: &mut [u64],
     since: &mut [u64],
-) {
+) -> io::Result<()> {
     let blank = Page {
         draw: false,
         total: 0,
@@ -296,15 +314,19 @@ fn draw(
         first: 1,
         channels: 1,
     };
-    let page = play(fd, blank, pool, samples, peaks, clips, places, since);
-    page::open(page, tape);
-    play(fd, page, pool, samples, peaks, clips, places, since);
+    let page = play(rt, out, file, blank, pool, samples, peaks, clips, places, since)?;
+    page::open(out, page, tape)?;
+    play(rt, out, file, page, pool, samples, peaks, clips, places, since)?;
+    Ok(())
 }
 
 // Draws an open tape, with the first `count` samples of a pool.
-fn draw_file(fd: i32, name: &[u8], pool: &[f32], count: usize) {
+fn draw_file<E: Eprint, F: FileExt, W: Write>(
+    rt: &E,
+    out: &mut W,
+    file: &F, name: &[u8], pool: &[f32], count: usize) -> io::Result<()> {
     if pool.len() < count {
-        return;
+        return Ok(());
     }
     let mut samples = apply::silence();
     let mut peaks = silent_peaks();
@@ -312,7 +334,9 @@ fn draw_file(fd: i32, name: &[u8], pool: &[f32], count: usize) {
     let mut places = tape_tracks::row();
     let mut since = tape_tracks::row();
     draw(
-        fd,
+        rt,
+        out,
+        file,
         name,
         &pool[..count],
         &mut samples,
@@ -320,28 +344,34 @@ fn draw_file(fd: i32, name: &[u8], pool: &[f32], count: usize) {
         &mut clips,
         &mut places,
         &mut since,
-    );
+    )
 }
 
 // The same, with the first `letters` of a name.
-fn draw_named(fd: i32, name: &[u8], letters: usize, pool: &[f32], count: usize) {
+fn draw_named<E: Eprint, F: FileExt, W: Write>(
+    rt: &E,
+    out: &mut W,
+    file: &F, name: &[u8], letters: usize, pool: &[f32], count: usize) -> io::Result<()> {
     if name.len() < letters {
-        return;
+        return Ok(());
     }
-    draw_file(fd, &name[..letters], pool, count);
+    draw_file(rt, out, file, &name[..letters], pool, count)
 }
 
-fn main() {
-    let mut name = io::buffer();
+fn main(rt: HostRuntime) -> io::Result<()> {
+    let mut name = [0u8; 4096];
     let mut pool = pool_file::room();
     let opened = tape_pages::open(
+        &rt,
         b"trail_sheet",
         b"Draws the tape TAPE as an SVG page on standard output.\n",
         &mut name,
         &mut pool,
     );
-    if opened.good {
-        draw_named(opened.fd, &name, opened.name, &pool, opened.count);
-        libc::close(opened.fd);
+    if let Some(file) = &opened.file {
+        let mut out = BufWriter::new(rt.alloc(), rt.stdout())?;
+        draw_named(&rt, &mut out, file, &name, opened.name, &pool, opened.count)?;
+        return out.flush();
     }
+    Ok(())
 }

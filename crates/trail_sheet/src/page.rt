@@ -1,5 +1,7 @@
 // The page's elements, written as they come.
 use sequencer::{Answer, Sequencer};
+use std::io;
+use std::io::Write;
 
 // What a page is drawn by: whether this is the time to draw, how long the tape plays, how many clips were laid and from which number on, and how many channels.
 #[derive(Clone, Copy)]
@@ -19,11 +21,13 @@ pub(crate) struct LastMark {
 }
 
 // Writes the first n bytes of a text, where it has so many.
-pub(crate) fn say(text: &[u8], n: usize) {
+pub(crate) fn say<W: Write>(
+    out: &mut W,
+    text: &[u8], n: usize) -> io::Result<()> {
     if text.len() < n {
-        return;
+        return Ok(());
     }
-    io::write_all(1, &text[..n]);
+    out.write_all(&text[..n])
 }
 
 fn plus(a: u64, b: u64) -> u64 {
@@ -32,62 +36,74 @@ fn plus(a: u64, b: u64) -> u64 {
 
 // ---- lanes
 
-fn axis_mark(page: Page, time: u64, step: u64, top: u64, height: u64) {
-    let mut text = io::buffer();
+fn axis_mark<W: Write>(
+    out: &mut W,
+    page: Page, time: u64, step: u64, top: u64, height: u64) -> io::Result<()> {
+    let mut text = [0u8; 4096];
     let n = tape_sheet::put_axis_mark(time, page.total, step, top, height, &mut text, 0);
-    say(&text, n);
+    say(out, &text, n)
 }
 
 // Lines through a group of lanes, with their times above.
-fn axis(page: Page, top: u64, height: u64) {
+fn axis<W: Write>(
+    out: &mut W,
+    page: Page, top: u64, height: u64) -> io::Result<()> {
     let step = chart::step(page.total);
     let mut t: u64 = 0;
     let mut left: u64 = 20;
     while left > 0 {
         left = left - 1;
         if page.total < t {
-            return;
+            return Ok(());
         }
-        axis_mark(page, t, step, top, height);
+        axis_mark(out, page, t, step, top, height)?;
         t = plus(t, step);
     }
+    Ok(())
 }
 
 // An axis for each group of 64 lanes.
-fn axes(page: Page) {
+fn axes<W: Write>(
+    out: &mut W,
+    page: Page) -> io::Result<()> {
     let mut i: u64 = 0;
     let mut left = page.lanes / 64;
     while left > 0 {
         left = left - 1;
-        axis(page, chart::lane(i), 1024);
+        axis(out, page, chart::lane(i), 1024)?;
         i = plus(i, 64);
     }
     let rest = page.lanes % 64;
     if rest != 0 || page.lanes == 0 {
-        axis(page, chart::lane(i), plus(rest * 16, 4));
+        axis(out, page, chart::lane(i), plus(rest * 16, 4))?;
     }
+    Ok(())
 }
 
 // A clip's standing from a time to another.
-pub(crate) fn segment(page: Page, clip: u64, place: u64, from: u64, until: u64) {
+pub(crate) fn segment<W: Write>(
+    out: &mut W,
+    page: Page, clip: u64, place: u64, from: u64, until: u64) -> io::Result<()> {
     if !page.draw {
-        return;
+        return Ok(());
     }
-    let mut text = io::buffer();
+    let mut text = [0u8; 4096];
     let n = tape_sheet::put_segment(
         page.total, page.first, clip, place, from, until, &mut text, 0,
     );
-    say(&text, n);
+    say(out, &text, n)
 }
 
 // A lane's line, its number, and a mark where the clip was laid.
-pub(crate) fn lay(page: Page, clip: u64, place: u64, now: u64) {
+pub(crate) fn lay<W: Write>(
+    out: &mut W,
+    page: Page, clip: u64, place: u64, now: u64) -> io::Result<()> {
     if !page.draw {
-        return;
+        return Ok(());
     }
-    let mut text = io::buffer();
+    let mut text = [0u8; 4096];
     let n = tape_sheet::put_lane(page.total, page.first, clip, place, now, &mut text, 0);
-    say(&text, n);
+    say(out, &text, n)
 }
 
 // ---- marks
@@ -103,38 +119,48 @@ fn mark_at(m: LastMark, x: u64) -> LastMark {
     }
 }
 
-fn mark_refusal(page: Page, row: u64, kind: u8, clip: u64, refusal: u64, now: u64) {
-    let mut text = io::buffer();
+fn mark_refusal<W: Write>(
+    out: &mut W,
+    page: Page, row: u64, kind: u8, clip: u64, refusal: u64, now: u64) -> io::Result<()> {
+    let mut text = [0u8; 4096];
     let n = tape_sheet::put_refused(page.total, row, kind, clip, refusal, now, &mut text, 0);
-    say(&text, n);
+    say(out, &text, n)
 }
 
 // An edit, in the strip and on its clip's lane.
-fn mark_edit(page: Page, row: u64, kind: u8, clip: u64, told: Answer, now: u64) {
-    let mut text = io::buffer();
+fn mark_edit<W: Write>(
+    out: &mut W,
+    page: Page, row: u64, kind: u8, clip: u64, told: Answer, now: u64) -> io::Result<()> {
+    let mut text = [0u8; 4096];
     let n = tape_sheet::put_edited(page.total, row, kind, clip, told, now, &mut text, 0);
-    say(&text, n);
+    say(out, &text, n)?;
     if std::num::wrapping_sub_u64(clip, page.first) < page.lanes {
-        mark_lane(page, kind, clip, told, now);
+        mark_lane(out, page, kind, clip, told, now)?;
     }
+    Ok(())
 }
 
-fn mark_lane(page: Page, kind: u8, clip: u64, told: Answer, now: u64) {
-    let mut text = io::buffer();
+fn mark_lane<W: Write>(
+    out: &mut W,
+    page: Page, kind: u8, clip: u64, told: Answer, now: u64) -> io::Result<()> {
+    let mut text = [0u8; 4096];
     let n = tape_sheet::put_edited_lane(
         page.total, page.first, kind, clip, told, now, &mut text, 0,
     );
-    say(&text, n);
+    say(out, &text, n)
 }
 
 // A reset or a rate.
-fn mark_call(page: Page, row: u64, kind: u8, now: u64) {
-    let mut text = io::buffer();
+fn mark_call<W: Write>(
+    out: &mut W,
+    page: Page, row: u64, kind: u8, now: u64) -> io::Result<()> {
+    let mut text = [0u8; 4096];
     let n = tape_sheet::put_called(page.total, row, page.lanes, kind, now, &mut text, 0);
-    say(&text, n);
+    say(out, &text, n)
 }
 
-pub(crate) fn mark(
+pub(crate) fn mark<W: Write>(
+    out: &mut W,
     page: Page,
     m: LastMark,
     kind: u8,
@@ -142,56 +168,49 @@ pub(crate) fn mark(
     refusal: u64,
     told: Answer,
     now: u64,
-) -> LastMark {
+) -> io::Result<LastMark> {
     let next = mark_at(m, chart::x(now, page.total));
     if refusal != 0 {
         if page.draw {
-            mark_refusal(page, next.row, kind, clip, refusal, now);
+            mark_refusal(out, page, next.row, kind, clip, refusal, now)?;
         }
-        return next;
+        return Ok(next);
     }
     match kind {
         4 | 5 => {
             if page.draw {
-                mark_edit(page, next.row, kind, clip, told, now);
+                mark_edit(out, page, next.row, kind, clip, told, now)?;
             }
-            next
+            Ok(next)
         }
         8 | 9 => {
             if page.draw {
-                mark_call(page, next.row, kind, now);
+                mark_call(out, page, next.row, kind, now)?;
             }
-            next
+            Ok(next)
         }
-        _ => m,
+        _ => Ok(m),
     }
 }
 
 // ---- the page
 
-fn swatch(place: u64, x: u32) {
-    let mut text = io::buffer();
+fn swatch<W: Write>(
+    out: &mut W,
+    place: u64, x: u32) -> io::Result<()> {
+    let mut text = [0u8; 4096];
     let n = tape_sheet::put_swatch(place, x, &mut text, 0);
-    say(&text, n);
+    say(out, &text, n)
 }
 
-fn style() {
-    io::write_all(
-        1,
-        b"<style>text{font-family:sans-serif;font-size:11px;fill:#000}.h{font-size:16px;font-weight:bold}.n{text-anchor:end}.t{font-size:10px;fill:#444}.z{font-size:14px;font-weight:bold}",
-    );
-    io::write_all(
-        1,
-        b".w{fill:#ffdf80;stroke:#8a6d00;stroke-width:.6}.s{fill:#164a8a}.f{fill:#8fc79a;stroke:#3d7a49;stroke-width:.6}.g{fill:#777}",
-    );
-    io::write_all(
-        1,
-        b".a{stroke:#ddd;fill:none}.l{stroke:#eee;fill:none}.p,.d{fill:#000}.b{fill:#fafafa;stroke:#bbb}.v,.o{stroke:#3f74b5;stroke-width:1.4;fill:none}.o{stroke:#000}",
-    );
-    io::write_all(
-        1,
-        b"rect.r{fill:#8b0000}text.r{fill:#fff;text-anchor:middle;font-weight:bold;font-size:10px}rect.e{fill:#fff;stroke:#000}text.e,text.c{text-anchor:middle;font-size:10px}rect.c{fill:#e4e4e4}path.c{stroke:#666;stroke-dasharray:3 3;fill:none}</style>\n",
-    );
+fn style<W: Write>(
+    out: &mut W,
+    ) -> io::Result<()> {
+    out.write_all(b"<style>text{font-family:sans-serif;font-size:11px;fill:#000}.h{font-size:16px;font-weight:bold}.n{text-anchor:end}.t{font-size:10px;fill:#444}.z{font-size:14px;font-weight:bold}")?;
+    out.write_all(b".w{fill:#ffdf80;stroke:#8a6d00;stroke-width:.6}.s{fill:#164a8a}.f{fill:#8fc79a;stroke:#3d7a49;stroke-width:.6}.g{fill:#777}")?;
+    out.write_all(b".a{stroke:#ddd;fill:none}.l{stroke:#eee;fill:none}.p,.d{fill:#000}.b{fill:#fafafa;stroke:#bbb}.v,.o{stroke:#3f74b5;stroke-width:1.4;fill:none}.o{stroke:#000}")?;
+    out.write_all(b"rect.r{fill:#8b0000}text.r{fill:#fff;text-anchor:middle;font-weight:bold;font-size:10px}rect.e{fill:#fff;stroke:#000}text.e,text.c{text-anchor:middle;font-size:10px}rect.c{fill:#e4e4e4}path.c{stroke:#666;stroke-dasharray:3 3;fill:none}</style>\n")?;
+    Ok(())
 }
 
 // A byte of a name, as it can stand in a page: a sign that XML or a reader could take amiss becomes an underscore.
@@ -203,57 +222,62 @@ fn plain(b: u8) -> u8 {
 }
 
 // The tape's name, as it can stand in a page.
-fn name(tape: &[u8]) {
+fn name<W: Write>(
+    out: &mut W,
+    tape: &[u8]) -> io::Result<()> {
     let mut i = 0;
     while i < tape.len() {
-        io::write_all(1, &[plain(tape[i])]);
+        out.write_all(&[plain(tape[i])])?;
         i = i + 1;
     }
+    Ok(())
 }
 
-fn measures(page: Page) {
-    let mut text = io::buffer();
+fn measures<W: Write>(
+    out: &mut W,
+    page: Page) -> io::Result<()> {
+    let mut text = [0u8; 4096];
     let n = tape_sheet::put_measures(page.lanes, page.channels, page.total, &mut text, 0);
-    say(&text, n);
+    say(out, &text, n)
 }
 
-pub(crate) fn open(page: Page, tape: &[u8]) {
-    let mut text = io::buffer();
+pub(crate) fn open<W: Write>(
+    out: &mut W,
+    page: Page, tape: &[u8]) -> io::Result<()> {
+    let mut text = [0u8; 4096];
     let n = tape_sheet::put_page(page.lanes, page.channels, &mut text, 0);
-    say(&text, n);
-    name(tape);
-    io::write_all(1, b"</title>\n");
-    style();
-    io::write_all(
-        1,
-        b"<rect width=\"1640\" height=\"100%\" fill=\"#fff\"/>\n<text class=\"h\" x=\"20\" y=\"26\">Proof sheet of ",
-    );
-    name(tape);
-    io::write_all(1, b"</text>\n");
-    measures(page);
-    swatch(0, 170);
-    swatch(1, 280);
-    swatch(2, 390);
-    swatch(3, 500);
-    io::write_all(
-        1,
-        b"<text class=\"k\" x=\"600\" y=\"51\">a triangle in front of a bar: laid; above it: edited; a number on dark: a refused call, by its refusal; black wave: above 1.0</text>\n<text class=\"n\" x=\"162\" y=\"80\">calls</text>\n",
-    );
-    axes(page);
+    say(out, &text, n)?;
+    name(out, tape)?;
+    out.write_all(b"</title>\n")?;
+    style(out)?;
+    out.write_all(b"<rect width=\"1640\" height=\"100%\" fill=\"#fff\"/>\n<text class=\"h\" x=\"20\" y=\"26\">Proof sheet of ")?;
+    name(out, tape)?;
+    out.write_all(b"</text>\n")?;
+    measures(out, page)?;
+    swatch(out, 0, 170)?;
+    swatch(out, 1, 280)?;
+    swatch(out, 2, 390)?;
+    swatch(out, 3, 500)?;
+    out.write_all(b"<text class=\"k\" x=\"600\" y=\"51\">a triangle in front of a bar: laid; above it: edited; a number on dark: a refused call, by its refusal; black wave: above 1.0</text>\n<text class=\"n\" x=\"162\" y=\"80\">calls</text>\n")?;
+    axes(out, page)
 }
 
-fn foot(page: Page, s: Sequencer, pushes: u64) {
-    let mut text = io::buffer();
+fn foot<W: Write>(
+    out: &mut W,
+    page: Page, s: Sequencer, pushes: u64) -> io::Result<()> {
+    let mut text = [0u8; 4096];
     let n = tape_sheet::put_foot(page.lanes, page.channels, pushes, s.counts(), &mut text, 0);
-    say(&text, n);
+    say(out, &text, n)
 }
 
 // The waves, the sum, and what stops the tape.
-pub(crate) fn close(page: Page, s: Sequencer, peaks: &[u32], pushes: u64, stop: u64) {
-    crate::waves::draw(page.lanes, page.channels, peaks);
-    foot(page, s, pushes);
-    let mut text = io::buffer();
+pub(crate) fn close<W: Write>(
+    out: &mut W,
+    page: Page, s: Sequencer, peaks: &[u32], pushes: u64, stop: u64) -> io::Result<()> {
+    crate::waves::draw(out, page.lanes, page.channels, peaks)?;
+    foot(out, page, s, pushes)?;
+    let mut text = [0u8; 4096];
     let n = tape_sheet::put_stop(page.lanes, page.channels, stop, &mut text, 0);
-    say(&text, n);
-    io::write_all(1, b"</svg>\n");
+    say(out, &text, n)?;
+    out.write_all(b"</svg>\n")
 }

@@ -1,4 +1,6 @@
 // The wave of each channel: a peak for each of 1,401 columns, drawn as a bar about the middle.
+use std::io;
+use std::io::Write;
 use crate::page::say;
 use tape_pages::larger;
 
@@ -82,23 +84,29 @@ fn peak_at(peaks: &[u32], row: u64, column: u64) -> u32 {
     if i < peaks.len() { peaks[i] } else { 0 }
 }
 
-fn bar(bits: u32, column: u32, middle: u64) {
-    let mut text = io::buffer();
+fn bar<W: Write>(
+    out: &mut W,
+    bits: u32, column: u32, middle: u64) -> io::Result<()> {
+    let mut text = [0u8; 4096];
     let n = tape_sheet::put_bar(bits, column, middle, &mut text, 0);
-    say(&text, n);
+    say(out, &text, n)
 }
 
 // A channel's peaks as bars; with `loud` only those above 1.0, which are drawn once more, in black.
-fn bars(peaks: &[u32], row: u64, middle: u64, loud: bool) {
+fn bars<W: Write>(
+    out: &mut W,
+    peaks: &[u32], row: u64, middle: u64, loud: bool) -> io::Result<()> {
     let mut column: u32 = 0;
     while column < 1401 {
         bar(
+            out,
             shown(peak_at(peaks, row, column as u64), loud),
             column,
             middle,
-        );
+        )?;
         column = column + 1;
     }
+    Ok(())
 }
 
 // A peak that is drawn; 0 where it is not.
@@ -121,28 +129,30 @@ fn loudest_of(peaks: &[u32], row: u64) -> u32 {
     most
 }
 
-fn wave(lanes: u64, peaks: &[u32], channel: u32, row: u64) {
-    let mut text = io::buffer();
+fn wave<W: Write>(
+    out: &mut W,
+    lanes: u64, peaks: &[u32], channel: u32, row: u64) -> io::Result<()> {
+    let mut text = [0u8; 4096];
     let n = tape_sheet::put_wave(lanes, channel, loudest_of(peaks, row), &mut text, 0);
-    say(&text, n);
+    say(out, &text, n)?;
     let middle = chart::wave(lanes, channel as u64) + 40;
-    bars(peaks, row, middle, false);
-    io::write_all(1, b"\"/><path class=\"o\" d=\"M170 ");
-    io::print_decimal(1, middle);
-    bars(peaks, row, middle, true);
-    io::write_all(1, b"\"/>\n");
+    bars(out, peaks, row, middle, false)?;
+    write!(out, "\"/><path class=\"o\" d=\"M170 {middle}")?;
+    bars(out, peaks, row, middle, true)?;
+    out.write_all(b"\"/>\n")
 }
 
 // The waves of up to eight channels.
-pub(crate) fn draw(lanes: u64, channels: u64, peaks: &[u32]) {
+pub(crate) fn draw<W: Write>(out: &mut W, lanes: u64, channels: u64, peaks: &[u32]) -> io::Result<()> {
     let mut c: u32 = 0;
     let mut row: u64 = 0;
     while c < 8 {
         if channels <= c as u64 {
-            return;
+            return Ok(());
         }
-        wave(lanes, peaks, c, row);
+        wave(out, lanes, peaks, c, row)?;
         c = c + 1;
         row = plus(row, 1401);
     }
+    Ok(())
 }

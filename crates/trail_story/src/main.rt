@@ -1,44 +1,53 @@
-// `trail_story TAPE`: a tape in lines to read. Ticks and blocks in which nothing starts or finishes are gathered in one line. Of what is written no contract speaks, since the kit's io has no model of
+// `trail_story TAPE`: a tape in lines to read. Ticks and blocks in which nothing starts or finishes are gathered in one line. Of what is written no contract speaks, since std has no model of
 // standard output: the lines are crate tape_story, where a clip stands is crate tape_tracks, and the calls are the engine's.
 #![tactic(auto)]
 
 use sequencer::{Answer, Sequencer};
+use std::io;
+use std::io::{BufWriter, Write};
+use std::os::unix::fs::FileExt;
 use tape::reader::{Call, Read};
 use tape_pages::{both, larger};
 
 // Writes the first n bytes of a text, where it has so many.
-fn say(text: &[u8], n: usize) {
+fn say<W: Write>(
+    out: &mut W,
+    text: &[u8], n: usize) -> io::Result<()> {
     if text.len() < n {
-        return;
+        return Ok(());
     }
-    io::write_all(1, &text[..n]);
+    out.write_all(&text[..n])
 }
 
 // ---- clips
 
-fn tell_move(clip: u64, was: u64, place: u64) {
-    let mut text = io::buffer();
+fn tell_move<W: Write>(
+    out: &mut W,
+    clip: u64, was: u64, place: u64) -> io::Result<()> {
+    let mut text = [0u8; 4096];
     let n = tape_story::put_move(clip, was, place, &mut text, 0);
-    say(&text, n);
+    say(out, &text, n)
 }
 
 // Where a count has changed, tells every clip that stands elsewhere than it did, keeps those that are held, and answers how many they are.
-fn follow(moved: bool, s: Sequencer, clips: &mut [u64], places: &mut [u64], count: usize) -> usize {
+fn follow<W: Write>(
+    out: &mut W,
+    moved: bool, s: Sequencer, clips: &mut [u64], places: &mut [u64], count: usize) -> io::Result<usize> {
     if !moved {
-        return count;
+        return Ok(count);
     }
     let mut kept = 0;
     let mut i = 0;
     while i < count {
         let clip = tape_tracks::at(clips, i);
         let place = tape_tracks::stands(s, clip);
-        tell_move(clip, tape_tracks::at(places, i), place);
+        tell_move(out, clip, tape_tracks::at(places, i), place)?;
         tape_tracks::set(clips, kept, clip);
         tape_tracks::set(places, kept, place);
         kept = tape_tracks::next_place(kept, place);
         i = i + 1;
     }
-    kept
+    Ok(kept)
 }
 
 // A clip that was laid is held from now on.
@@ -68,10 +77,12 @@ struct Quiet {
     peak: u32,
 }
 
-fn tell_quiet(q: Quiet) {
-    let mut text = io::buffer();
+fn tell_quiet<W: Write>(
+    out: &mut W,
+    q: Quiet) -> io::Result<()> {
+    let mut text = [0u8; 4096];
     let n = tape_story::put_quiet(q.calls, q.since, q.peak, &mut text, 0);
-    say(&text, n);
+    say(out, &text, n)
 }
 
 fn no_quiet() -> Quiet {
@@ -83,59 +94,74 @@ fn no_quiet() -> Quiet {
 }
 
 // One more of them, or their end, which is told.
-fn quieter(q: Quiet, quiet: bool, clock: u64, peak: u32) -> Quiet {
+fn quieter<W: Write>(
+    out: &mut W,
+    q: Quiet, quiet: bool, clock: u64, peak: u32) -> io::Result<Quiet> {
     if !quiet {
-        tell_quiet(q);
-        return no_quiet();
+        tell_quiet(out, q)?;
+        return Ok(no_quiet());
     }
     if q.calls == 0 {
-        return Quiet {
+        return Ok(Quiet {
             calls: 1,
             since: clock,
             peak,
-        };
+        });
     }
-    Quiet {
+    Ok(Quiet {
         calls: std::num::wrapping_add_u64(q.calls, 1),
         since: q.since,
         peak: larger(q.peak, peak),
-    }
+    })
 }
 
-fn begin_if(told: bool, clock: u64, kind: u8, clip: u64, refusal: u64) {
+fn begin_if<W: Write>(
+    out: &mut W,
+    told: bool, clock: u64, kind: u8, clip: u64, refusal: u64) -> io::Result<()> {
     if told {
-        let mut text = io::buffer();
+        let mut text = [0u8; 4096];
         let n = tape_story::put_begin(clock, kind, clip, refusal, &mut text, 0);
-        say(&text, n);
+        say(out, &text, n)?;
     }
+    Ok(())
 }
 
-fn answer_if(accepted: bool, s: Sequencer, kind: u8, told: Answer, clip: u64, place: u64) {
+fn answer_if<W: Write>(
+    out: &mut W,
+    accepted: bool, s: Sequencer, kind: u8, told: Answer, clip: u64, place: u64) -> io::Result<()> {
     if accepted {
-        let mut text = io::buffer();
+        let mut text = [0u8; 4096];
         let n = tape_story::put_outcome(s, kind, told, clip, place, &mut text, 0);
-        say(&text, n);
+        say(out, &text, n)?;
     }
+    Ok(())
 }
 
-fn end_if(told: bool, each: usize, heard: bool, peak: u32) {
+fn end_if<W: Write>(
+    out: &mut W,
+    told: bool, each: usize, heard: bool, peak: u32) -> io::Result<()> {
     if told {
-        let mut text = io::buffer();
+        let mut text = [0u8; 4096];
         let n = tape_story::put_heard(each as u64, peak, heard, &mut text, 0);
-        say(&text, n);
+        say(out, &text, n)?;
     }
+    Ok(())
 }
 
-fn tell_stop(clock: u64, kind: u8, refusal: u64) {
-    let mut text = io::buffer();
+fn tell_stop<W: Write>(
+    out: &mut W,
+    clock: u64, kind: u8, refusal: u64) -> io::Result<()> {
+    let mut text = [0u8; 4096];
     let n = tape_story::put_stop(clock, kind, refusal, &mut text, 0);
-    say(&text, n);
+    say(out, &text, n)
 }
 
-fn tell_sum(clock: u64, s: Sequencer, pushes: u64) {
-    let mut text = io::buffer();
+fn tell_sum<W: Write>(
+    out: &mut W,
+    clock: u64, s: Sequencer, pushes: u64) -> io::Result<()> {
+    let mut text = [0u8; 4096];
     let n = tape_story::put_end(clock, pushes, s.counts(), &mut text, 0);
-    say(&text, n);
+    say(out, &text, n)
 }
 
 // The greatest magnitude among the first `each` samples.
@@ -173,20 +199,23 @@ fn untold() -> Told {
 }
 
 // The last lines: quiet calls, what stops the tape, and the sum.
-fn tell_end(r: Read, t: Told) {
+fn tell_end<W: Write>(
+    out: &mut W,
+    r: Read, t: Told) -> io::Result<()> {
     let quiet = t.quiet;
-    tell_quiet(quiet);
+    tell_quiet(out, quiet)?;
     let s = t.sequencer;
     let clock = chart::micros(s.time);
     match r {
-        Read::Refused { kind, number } => tell_stop(clock, kind, number as u64),
+        Read::Refused { kind, number } => tell_stop(out, clock, kind, number as u64)?,
         _ => {}
     }
-    tell_sum(clock, s, t.pushes);
+    tell_sum(out, clock, s, t.pushes)
 }
 
 // Plays a record, and tells it.
-fn tell_record(
+fn tell_record<W: Write>(
+    out: &mut W,
     t: Told,
     kind: u8,
     call: Call,
@@ -194,7 +223,7 @@ fn tell_record(
     samples: &mut [f32],
     clips: &mut [u64],
     places: &mut [u64],
-) -> Told {
+) -> io::Result<Told> {
     let before = t.sequencer;
     let clock = chart::micros(before.time);
     let clip = before.next;
@@ -207,68 +236,76 @@ fn tell_record(
     let still = tape_tracks::is_same(before.counts(), s.counts());
     let quiet_now = both(still, heard);
     let quiet_before = t.quiet;
-    let quiet = quieter(quiet_before, quiet_now, clock, peak);
-    begin_if(!quiet_now, clock, kind, tape_tracks::edited(call), refusal);
+    let quiet = quieter(out, quiet_before, quiet_now, clock, peak)?;
+    begin_if(out, !quiet_now, clock, kind, tape_tracks::edited(call), refusal)?;
     let laid = both(refusal == 0, tape::reader::is_push(kind));
     let place = tape_tracks::place_if(laid, s, clip);
     let count = enter_if(laid, clips, places, t.count, clip, place);
-    answer_if(both(refusal == 0, !quiet_now), s, kind, told, clip, place);
-    let count = follow(!still, s, clips, places, count);
-    end_if(!quiet_now, a.each, heard, peak);
-    Told {
+    answer_if(out, both(refusal == 0, !quiet_now), s, kind, told, clip, place)?;
+    let count = follow(out, !still, s, clips, places, count)?;
+    end_if(out, !quiet_now, a.each, heard, peak)?;
+    Ok(Told {
         sequencer: s,
         count,
         pushes: tape_tracks::one_more_if(laid, t.pushes),
         quiet,
         refusal,
-    }
+    })
 }
 
 // Plays the tape, with the pool and with memory for a block's samples and for the clips that are held.
-fn tell(fd: i32, pool: &[f32], samples: &mut [f32], clips: &mut [u64], places: &mut [u64]) {
+fn tell<E: Eprint, F: FileExt, W: Write>(
+    rt: &E,
+    out: &mut W,
+    file: &F,
+    pool: &[f32], samples: &mut [f32], clips: &mut [u64], places: &mut [u64]) -> io::Result<()> {
     let mut t = untold();
     let mut first = true;
     let mut at: u64 = 0;
-    let mut turns = u64::MAX;
-    while turns > 0 {
-        turns = turns - 1;
-        let r = tape_pages::record(b"trail_story", fd, at, first);
+    for _ in 0..u64::MAX {
+        let r = tape_pages::record(rt, b"trail_story", file, at, first);
         let Read::Record { kind, call, next } = r else {
-            tell_end(r, t);
-            return;
+            return tell_end(out, r, t);
         };
-        t = tell_record(t, kind, call, pool, samples, clips, places);
+        t = tell_record(out, t, kind, call, pool, samples, clips, places)?;
         if t.refusal == 1 {
-            tell_end(Read::End, t);
-            return;
+            return tell_end(out, Read::End, t);
         }
         first = next.first;
         at = std::num::wrapping_add_u64(at, next.at as u64);
     }
+    Ok(())
 }
 
 // Tells an open tape, with the first `count` samples of a pool.
-fn tell_file(fd: i32, pool: &[f32], count: usize) {
+fn tell_file<E: Eprint, F: FileExt, W: Write>(
+    rt: &E,
+    out: &mut W,
+    file: &F,
+    pool: &[f32], count: usize) -> io::Result<()> {
     if pool.len() < count {
-        return;
+        return Ok(());
     }
     let mut samples = apply::silence();
     let mut clips = tape_tracks::row();
     let mut places = tape_tracks::row();
-    tell(fd, &pool[..count], &mut samples, &mut clips, &mut places);
+    tell(rt, out, file, &pool[..count], &mut samples, &mut clips, &mut places)
 }
 
-fn main() {
-    let mut name = io::buffer();
+fn main(rt: HostRuntime) -> io::Result<()> {
+    let mut name = [0u8; 4096];
     let mut pool = pool_file::room();
     let opened = tape_pages::open(
+        &rt,
         b"trail_story",
         b"Tells the tape TAPE in lines on standard output.\n",
         &mut name,
         &mut pool,
     );
-    if opened.good {
-        tell_file(opened.fd, &pool, opened.count);
-        libc::close(opened.fd);
+    if let Some(file) = &opened.file {
+        let mut out = BufWriter::new(rt.alloc(), rt.stdout())?;
+        tell_file(&rt, &mut out, file, &pool, opened.count)?;
+        return out.flush();
     }
+    Ok(())
 }

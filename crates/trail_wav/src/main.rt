@@ -5,6 +5,11 @@
 mod say;
 
 use say::{Ending, Heard};
+use std::fs::File;
+use std::io;
+use std::io::{IsTerminal, Write};
+use std::os::unix::fs::FileExt;
+use std::rt::Files;
 use tape::reader::{Cursor, Read};
 
 // ---- what is heard
@@ -68,11 +73,11 @@ fn goes_on(heard: Heard) -> bool {
 // ---- the data
 
 // Writes the first `used` bytes of `data`.
-fn write_out(fd: i32, data: &[u8], used: usize) -> bool {
+fn write_out<W: Write>(to: &mut W, data: &[u8], used: usize) -> bool {
     if data.len() < used {
         return false;
     }
-    io::write_all(fd, &data[..used])
+    to.write_all(&data[..used]).is_ok()
 }
 
 // Whether the data has no room for a block of 8 channels.
@@ -127,26 +132,48 @@ fn small(channels: usize) -> u8 {
     if channels <= 8 { channels as u8 } else { 8 }
 }
 
-// Puts the header in its place, and says what was written.
-fn finish(fd: i32, data: &[u8], used: usize, heard: Heard, outputs: usize) {
+// Whether the header was put in its place.
+fn put_header<F: FileExt>(to: &F, header: &[u8]) -> bool {
+    match to.write_at(header, 0) {
+        Ok(n) => n == 94,
+        Err(_) => false,
+    }
+}
+
+// Puts the header in its place, and says what was written. `terminal`: standard error is one.
+fn finish<R: Print + Eprint, F: Write + FileExt>(
+    rt: &R,
+    terminal: bool,
+    to: &mut F,
+    data: &[u8],
+    used: usize,
+    heard: Heard,
+    outputs: usize,
+) {
     let channels = small(outputs);
     let mut h = heard;
-    if !write_out(fd, data, used) {
+    if !write_out(to, data, used) {
         h = heard.ended(Ending::Unwritten);
     }
-    if libc::pwrite(fd, &wav::header::header(channels, h.rate, h.frames), 0) != 94 {
-        io::write_all(
-            2,
+    if !put_header(to, &wav::header::header(channels, h.rate, h.frames)) {
+        streams::say(
+            rt,
             b"trail_wav: the output cannot be sought: its header says 0 frames\n",
         );
     }
-    say::summary(h, channels);
+    say::summary(rt, terminal, h, channels);
 }
 
 // Plays the tape `from` into the WAV `to`.
-fn roll(from: i32, to: i32, pool: &[f32]) {
-    let mut buf = io::large_buffer();
-    let mut data = io::large_buffer();
+fn roll<R: Print + Eprint, I: io::Read, F: Write + FileExt>(
+    rt: &R,
+    terminal: bool,
+    from: &mut I,
+    to: &mut F,
+    pool: &[f32],
+) {
+    let mut buf = [0u8; 65536];
+    let mut data = [0u8; 65536];
     let mut samples = apply::silence();
     let mut s = apply::start();
     let mut heard = Heard {
@@ -161,9 +188,7 @@ fn roll(from: i32, to: i32, pool: &[f32]) {
     let mut used: usize = 0;
     let mut whole = false;
     let mut failed = false;
-    let mut turns = u64::MAX;
-    while turns > 0 {
-        turns = turns - 1;
+    for _ in 0..u64::MAX {
         if whole || tape_input::enough(at, have) {
             let c = Cursor { at, first };
             let r = c.read(&buf[..have]);
@@ -174,6 +199,8 @@ fn roll(from: i32, to: i32, pool: &[f32]) {
             } = r
             else {
                 finish(
+                    rt,
+                    terminal,
                     to,
                     &data,
                     used,
@@ -185,21 +212,21 @@ fn roll(from: i32, to: i32, pool: &[f32]) {
             let a = apply::apply(s, call, pool, &mut samples);
             s = a.sequencer;
             if a.refusal == 1 {
-                finish(to, &data, used, heard.ended(Ending::Refusal(1)), s.outputs);
+                finish(rt, terminal, to, &data, used, heard.ended(Ending::Refusal(1)), s.outputs);
                 return;
             }
             let most = loudest(&samples, a.channels, a.each, a.stride, heard.most);
             heard = hear(heard, a.each, s.sample_rate, most);
             if !goes_on(heard) {
-                finish(to, &data, used, heard, s.outputs);
+                finish(rt, terminal, to, &data, used, heard, s.outputs);
                 return;
             }
             if is_full(&data, used) {
                 if !write_out(to, &data, used) {
-                    finish(to, &data, 0, heard.ended(Ending::Unwritten), s.outputs);
+                    finish(rt, terminal, to, &data, 0, heard.ended(Ending::Unwritten), s.outputs);
                     return;
                 }
-                say::progress(heard.frames);
+                say::progress(rt, terminal, heard.frames);
                 used = 0;
             }
             used = add(&samples, a.channels, a.each, a.stride, &mut data, used);
@@ -236,87 +263,123 @@ fn same(a: &[u8], b: &[u8]) -> bool {
 }
 
 // Opens the output, with a header of no frames, and plays the tape into it.
-fn play(from: i32, out: &[u8], pool: &[f32]) {
-    let to = os::open_overwrite(out);
-    if to < 0 {
-        os::fail(out);
-        return;
+fn play<R: Files<File = File> + Print + Eprint + Alloc, I: io::Read>(
+    rt: &R,
+    terminal: bool,
+    from: &mut I,
+    out: &[u8],
+    pool: &[f32],
+) {
+    match streams::create(rt, out) {
+        Ok(mut to) => match to.write_all(&wav::header::header(1, 44100, 0)) {
+            Ok(()) => roll(rt, terminal, from, &mut to, pool),
+            Err(error) => streams::fail(rt, out, &error),
+        },
+        Err(error) => streams::fail(rt, out, &error),
     }
-    if !io::write_all(to, &wav::header::header(1, 44100, 0)) {
-        os::fail(out);
-        return;
-    }
-    roll(from, to, pool);
-    libc::close(to);
 }
 
 // With document 01's pool.
-fn play_with_trail_pool(from: i32, out: &[u8]) {
+fn play_with_trail_pool<R: Files<File = File> + Print + Eprint + Alloc, I: io::Read>(
+    rt: &R,
+    terminal: bool,
+    from: &mut I,
+    out: &[u8],
+) {
     let pool = tape::pool::trail_pool();
-    play(from, out, &pool);
+    play(rt, terminal, from, out, &pool);
 }
 
 // With the pool that a file has.
-fn play_with_pool(from: i32, out: &[u8], path: &[u8]) {
+fn play_with_pool<R: Files<File = File> + Print + Eprint + Alloc, I: io::Read>(
+    rt: &R,
+    terminal: bool,
+    from: &mut I,
+    out: &[u8],
+    path: &[u8],
+) {
     let mut pool = pool_file::room();
-    let loaded = pool_file::load(path, &mut pool);
+    let loaded = pool_file::load(rt, path, &mut pool);
     if !loaded.good {
         return;
     }
     let n = loaded.count;
     if n <= 262144 {
-        play(from, out, &pool[..n]);
+        play(rt, terminal, from, out, &pool[..n]);
     }
 }
 
-fn open(tape: &[u8], out: &[u8], path: &[u8], own: bool) {
+fn open<R: Files<File = File> + Print + Eprint + Alloc>(
+    rt: &R,
+    terminal: bool,
+    tape: &[u8],
+    out: &[u8],
+    path: &[u8],
+    own: bool,
+) {
     if same(tape, out) {
-        io::write_all(2, b"trail_wav: the output is the tape itself\n");
+        streams::say(rt, b"trail_wav: the output is the tape itself\n");
         return;
     }
     if own && same(path, out) {
-        io::write_all(2, b"trail_wav: the output is the pool itself\n");
+        streams::say(rt, b"trail_wav: the output is the pool itself\n");
         return;
     }
-    let from = os::open_read(tape);
-    if from < 0 {
-        os::fail(tape);
-        return;
+    match streams::open(rt, tape) {
+        Ok(mut from) => {
+            if own {
+                play_with_pool(rt, terminal, &mut from, out, path);
+            } else {
+                play_with_trail_pool(rt, terminal, &mut from, out);
+            }
+        }
+        Err(error) => streams::fail(rt, tape, &error),
     }
-    if own {
-        play_with_pool(from, out, path);
-    } else {
-        play_with_trail_pool(from, out);
-    }
-    libc::close(from);
 }
 
 // TAPE OUT, and POOL or --pool POOL.
-fn choose(count: usize, tape: &[u8], out: &[u8], a: &[u8], b: &[u8]) {
+fn choose<R: Files<File = File> + Print + Eprint + Alloc>(
+    rt: &R,
+    terminal: bool,
+    count: usize,
+    tape: &[u8],
+    out: &[u8],
+    a: &[u8],
+    b: &[u8],
+) {
     let named = pool_file::is_option(a);
     if count == 3 {
-        open(tape, out, a, false);
+        open(rt, terminal, tape, out, a, false);
         return;
     }
     if count == 4 && !named {
-        open(tape, out, a, true);
+        open(rt, terminal, tape, out, a, true);
         return;
     }
     if count == 5 && named {
-        open(tape, out, b, true);
+        open(rt, terminal, tape, out, b, true);
         return;
     }
-    say::usage();
+    say::usage(rt);
 }
 
-fn main() {
-    let mut tape = io::buffer();
-    let n = os::arg(1, &mut tape);
-    let mut out = io::buffer();
-    let m = os::arg(2, &mut out);
-    let mut a = io::buffer();
-    let k = os::arg(3, &mut a);
-    let mut b = io::buffer();
-    let l = os::arg(4, &mut b);
-    choose(os::arg_count(), &tape[..n], &out[..m], &a[..k], &b[..l]);
+fn main(rt: HostRuntime) {
+    let mut tape = [0u8; 4096];
+    let n = streams::argument(&rt, 1, &mut tape);
+    let mut out = [0u8; 4096];
+    let m = streams::argument(&rt, 2, &mut out);
+    let mut a = [0u8; 4096];
+    let k = streams::argument(&rt, 3, &mut a);
+    let mut b = [0u8; 4096];
+    let l = streams::argument(&rt, 4, &mut b);
+    let terminal = rt.stderr().is_terminal();
+    choose(
+        &rt,
+        terminal,
+        streams::argument_count(&rt),
+        &tape[..n],
+        &out[..m],
+        &a[..k],
+        &b[..l],
+    );
 }

@@ -1,4 +1,6 @@
 // What was heard so far, what ended it, and the words for it.
+use std::fmt;
+use std::fmt::{Display, Formatter};
 
 #[derive(Clone, Copy)]
 pub(crate) enum Ending {
@@ -32,92 +34,79 @@ impl Heard {
     }
 }
 
-pub(crate) fn usage() {
-    io::write_all(2, b"usage: trail_wav TAPE OUT.wav [--pool FILE]\n");
-    io::write_all(
-        2,
+pub(crate) fn usage<E: Eprint>(rt: &E) {
+    streams::say(rt, b"usage: trail_wav TAPE OUT.wav [--pool FILE]\n");
+    streams::say(
+        rt,
         b"Plays the tape TAPE into OUT.wav, a WAV of 32-bit float samples, channels interleaved.\n",
     );
-    io::write_all(2, &pool_file::option_line());
-    io::write_all(
-        2,
+    streams::say(rt, &pool_file::option_line());
+    streams::say(
+        rt,
         b"docs/HANDBOOK.md says what a tape is; tape_text makes one from text.\n",
     );
 }
 
 // On a terminal, how many frames there are so far.
-pub(crate) fn progress(frames: u32) {
-    if libc::isatty(2) == 1 {
-        io::write_all(2, b"\rtrail_wav: ");
-        io::print_decimal(2, frames as u64);
-        io::write_all(2, b" frames");
+pub(crate) fn progress<E: Eprint>(rt: &E, terminal: bool, frames: u32) {
+    if terminal {
+        let _ = eprint!(rt; "\rtrail_wav: {frames} frames");
     }
-}
-
-fn digit(fd: i32, n: u64) {
-    io::print_decimal(fd, n % 10);
 }
 
 // A number from 0 on with six decimals; `beyond` where it is none below 1,000,000,000.
-fn print_number(fd: i32, x: f64) {
-    if x < 1000000000.0 {
-        let n = floats::nearest_index(x * 1000000.0);
-        io::print_decimal(fd, n / 1000000);
-        io::write_all(fd, b".");
-        digit(fd, n / 100000);
-        digit(fd, n / 10000);
-        digit(fd, n / 1000);
-        digit(fd, n / 100);
-        digit(fd, n / 10);
-        digit(fd, n);
-        return;
+#[derive(Clone, Copy)]
+struct Number(f64);
+
+impl Display for Number {
+    fn fmt<W: fmt::Write>(&self, f: &mut Formatter<W>) -> fmt::Result {
+        let x = self.0;
+        if x < 1000000000.0 {
+            let n = floats::nearest_index(x * 1000000.0);
+            let whole = n / 1000000;
+            let decimals = n % 1000000;
+            return write!(f, "{whole}.{decimals:06}");
+        }
+        f.write_str("beyond 1000000000")
     }
-    io::write_all(fd, b"beyond 1000000000");
 }
 
 // A magnitude as a number.
-fn print_peak(fd: i32, most: u32) {
-    if 0x7F80_0000 < most {
-        io::write_all(fd, b"NaN");
-        return;
+#[derive(Clone, Copy)]
+struct Peak(u32);
+
+impl Display for Peak {
+    fn fmt<W: fmt::Write>(&self, f: &mut Formatter<W>) -> fmt::Result {
+        let most = self.0;
+        if 0x7F80_0000 < most {
+            return f.write_str("NaN");
+        }
+        let number = Number(std::num::f32_to_f64_with_nan(float_bits::f32_from_bits(
+            most,
+        )));
+        write!(f, "{number}")
     }
-    print_number(
-        fd,
-        std::num::f32_to_f64_with_nan(float_bits::f32_from_bits(most)),
-    )
 }
 
-fn print_ending(fd: i32, ending: Ending) {
-    match ending {
-        Ending::No => {}
-        Ending::Tape => {
-            io::write_all(fd, b"the end of the tape");
-        }
-        Ending::Refusal(n) => {
-            io::write_all(fd, b"refusal ");
-            io::print_decimal(fd, n);
-        }
-        Ending::OtherRate(rate) => {
-            io::write_all(fd, b"another rate: samples at ");
-            print_number(fd, rate);
-            io::write_all(fd, b" Hz, and a WAV has one rate");
-        }
-        Ending::NoWholeRate(rate) => {
-            io::write_all(fd, b"a rate that is no whole number: ");
-            print_number(fd, rate);
-            io::write_all(fd, b" Hz, and a WAV's is whole");
-        }
-        Ending::Full => {
-            io::write_all(
-                fd,
-                b"the header, which counts no more than 4294967295 frames",
-            );
-        }
-        Ending::Unread => {
-            io::write_all(fd, b"the tape, which cannot be read on");
-        }
-        Ending::Unwritten => {
-            io::write_all(fd, b"the output, which cannot be written");
+impl Display for Ending {
+    fn fmt<W: fmt::Write>(&self, f: &mut Formatter<W>) -> fmt::Result {
+        match *self {
+            Ending::No => Ok(()),
+            Ending::Tape => f.write_str("the end of the tape"),
+            Ending::Refusal(n) => write!(f, "refusal {n}"),
+            Ending::OtherRate(rate) => {
+                let rate = Number(rate);
+                write!(f, "another rate: samples at {rate} Hz, and a WAV has one rate")
+            }
+            Ending::NoWholeRate(rate) => {
+                let rate = Number(rate);
+                write!(f, "a rate that is no whole number: {rate} Hz, and a WAV's is whole")
+            }
+            Ending::Full => {
+                f.write_str("the header, which counts no more than 4294967295 frames")
+            }
+            Ending::Unread => f.write_str("the tape, which cannot be read on"),
+            Ending::Unwritten => f.write_str("the output, which cannot be written"),
         }
     }
 }
@@ -137,28 +126,17 @@ fn is_whole(ending: Ending) -> bool {
 }
 
 // The line at the end, on standard output, and on standard error what cut the tape short.
-pub(crate) fn summary(heard: Heard, channels: u8) {
-    if libc::isatty(2) == 1 {
-        io::write_all(2, b"\r");
+pub(crate) fn summary<R: Print + Eprint>(rt: &R, terminal: bool, heard: Heard, channels: u8) {
+    if terminal {
+        streams::say(rt, b"\r");
     }
     let ending = heard.ending;
-    io::print_decimal(1, channels as u64);
-    if channels == 1 {
-        io::write_all(1, b" channel, ");
-    } else {
-        io::write_all(1, b" channels, ");
-    }
-    io::print_decimal(1, heard.rate as u64);
-    io::write_all(1, b" Hz, ");
-    io::print_decimal(1, heard.frames as u64);
-    io::write_all(1, b" frames, peak ");
-    print_peak(1, heard.most);
-    io::write_all(1, b", ended by ");
-    print_ending(1, ending);
-    io::write_all(1, b"\n");
+    let rate = heard.rate;
+    let frames = heard.frames;
+    let peak = Peak(heard.most);
+    let unit = if channels == 1 { "channel" } else { "channels" };
+    let _ = println!(rt; "{channels} {unit}, {rate} Hz, {frames} frames, peak {peak}, ended by {ending}");
     if !is_whole(ending) {
-        io::write_all(2, b"trail_wav: the tape was cut short by ");
-        print_ending(2, ending);
-        io::write_all(2, b"\n");
+        let _ = eprintln!(rt; "trail_wav: the tape was cut short by {ending}");
     }
 }
