@@ -22,7 +22,7 @@ pub fn render_with_pool(tape: &[u8], pool: &[f32], out: &mut [u8]) -> usize
     player::play(tape, pool, out)
 }
 
-// What the tape comes to, whatever pool its clips read from: with room for so many bytes nothing of it is left out (specs/Room).
+// What the tape comes to, whatever pool its clips read from: with room for so many bytes nothing of it is left out (proofs/Room).
 pub fn tape_info(
     tape: &[u8],
     bytes: &mut u64,

@@ -23,7 +23,7 @@ pub extern "C" fn render_with_pool(tape: &[u8], pool: &[f32], out: &mut [u8]) ->
     render::render_with_pool(tape, pool, out)
 }
 
-// What the tape comes to, whatever pool its clips read from: with room for so many bytes nothing of it is left out (crate render, specs/Room).
+// What the tape comes to, whatever pool its clips read from: with room for so many bytes nothing of it is left out (crate render, proofs/Room).
 #[unsafe(no_mangle)]
 pub extern "C" fn tape_info(
     tape: &[u8],
