@@ -5,7 +5,7 @@ use Rattle.sums.specs.Engines.{SameSamples}
 use Rattle.claim.specs.EngineCalls.{engine}
 use Rattle.order_claim.specs.Theorem.{engine-same_samples}
 use Rattle.overlap.specs.Claim.{Same}
-use Rattle.overlap.specs.Theorem as overlap
+use Rattle.overlap.proofs.Theorem as overlap
 use Rattle.rises.specs.Totals.{Push}
 use Rattle.rises.specs.Reached as rises
 use Rattle.standing.specs.Theorem.{Drawn}

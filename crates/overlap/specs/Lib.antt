@@ -4,5 +4,4 @@ pub mod Keys
 pub mod Draining
 pub mod Reading
 pub mod Claim
-pub mod Theorem
 pub mod Cases

@@ -1,1 +1,2 @@
 pub mod Rolling
+pub mod Room

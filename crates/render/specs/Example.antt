@@ -8,10 +8,10 @@ use Rattle.render.specs.Rendering.{rendered_with, rendered}
 
 -- the block's samples 3F800000 and 00000000
 abbrev block_bytes : List ℕ
-block_bytes = 0x00 ∷ 0x00 ∷ 0x80 ∷ 0x3_f ∷ 0 ∷ 0 ∷ 0 ∷ 0 ∷ []
+block_bytes = 0x00 ∷ 0x00 ∷ 0x80 ∷ 0x3f ∷ 0 ∷ 0 ∷ 0 ∷ 0 ∷ []
 
 -- and the tick's, 00000000
-pub whole-example : rendered example 12 ≡ 0x00 ∷ 0x00 ∷ 0x80 ∷ 0x3_f ∷ 0 ∷ 0 ∷ 0 ∷ 0 ∷ 0 ∷ 0 ∷ 0 ∷ 0 ∷ []
+pub whole-example : rendered example 12 ≡ 0x00 ∷ 0x00 ∷ 0x80 ∷ 0x3f ∷ 0 ∷ 0 ∷ 0 ∷ 0 ∷ 0 ∷ 0 ∷ 0 ∷ 0 ∷ []
 unfolding computes rendered_with record_of unknown push_kind size_of call_of push_of source_of field from_little_endian
 whole-example = refl
 
@@ -27,8 +27,8 @@ empty-example = refl
 
 -- Paper 5: the same tape, its push as 0A with a gain of 0.5, 3F000000: the block's samples are 3F000000 and 00000000
 abbrev gain_tape : List ℕ
-gain_tape = take 20 example ++ (0x0_a ∷ take 42 (drop 21 example) ++ (0 ∷ 0 ∷ 0x00 ∷ 0x3_f ∷ drop 63 example))
+gain_tape = take 20 example ++ (0x0a ∷ take 42 (drop 21 example) ++ (0 ∷ 0 ∷ 0x00 ∷ 0x3f ∷ drop 63 example))
 
-pub gain_example : rendered gain_tape 12 ≡ 0x00 ∷ 0x00 ∷ 0x00 ∷ 0x3_f ∷ 0 ∷ 0 ∷ 0 ∷ 0 ∷ 0 ∷ 0 ∷ 0 ∷ 0 ∷ []
+pub gain_example : rendered gain_tape 12 ≡ 0x00 ∷ 0x00 ∷ 0x00 ∷ 0x3f ∷ 0 ∷ 0 ∷ 0 ∷ 0 ∷ 0 ∷ 0 ∷ 0 ∷ 0 ∷ []
 unfolding computes rendered_with record_of unknown push_kind size_of call_of push_of source_of field from_little_endian
 gain_example = refl

@@ -22,5 +22,5 @@ returns c =
     let h = sym (ap (λ (k : ℕ). eqb k 0) c.stop_of-stop.ensures) ∙ eq-eqb _ 0 c.if-stop-ne0.false in
     let k = ap push_kind_of (c.plain_kind-kind.ensures ∙ ap plain_kind c.byte-byte.ensures) in
     let r = pushed-one a.bs.now (engine_of (cells_of a.times.now a.levels.now a.marks.now a.numbers.now)) _ _ c.plain_kind-kind.result c.push_of-p.result _ h k
-        c.push_of-p.ensures c.push_of_kind-answer.ensures.engine c.push_of_kind-answer.ensures.answer c.refusal.ensures in
+    c.push_of-p.ensures c.push_of_kind-answer.ensures.engine c.push_of_kind-answer.ensures.answer c.refusal.ensures in
     record { engine = r.0; answer = r.1 }

@@ -14,7 +14,7 @@ pub returns-then-beyond : goal.returns-then-beyond
 returns-then-beyond c =
     let a = c.args in
     let r = all-refused a.count a.records.now (engine_of (cells_of a.times.now a.levels.now a.marks.now a.numbers.now)) a.given.now
-        (sym c.beyond.ensures ∙ c.if-beyond.true) in
+    (sym c.beyond.ensures ∙ c.if-beyond.true) in
     record { engine = r.0; answer = r.1.0; given = r.1.1 }
 
 pub loop-pushed-init : goal.loop-pushed-init

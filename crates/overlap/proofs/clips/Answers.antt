@@ -23,5 +23,5 @@ pub returns : goal.returns
 returns c =
     let a = c.args in
     let r = all_well a.from a.to a.out.now (held_in (engine_of (cells_of a.times.now a.levels.now a.marks.now a.numbers.now)))
-        c.if-not-from-to.false c.if-out-ne256.false _ _ c.list_clips-count.ensures.counted c.list_clips-count.ensures.listed in
+    c.if-not-from-to.false c.if-out-ne256.false _ _ c.list_clips-count.ensures.counted c.list_clips-count.ensures.listed in
     record { answer = r.0; lent = r.1 }

@@ -28,14 +28,14 @@ found-again c =
     let p = starts_from a.time in
     let h = heap_at cells _ l.i _ v.2 c.loop-i-test.true c.event_at-event.ensures in
     elim c.if-time-event.branch [
-      then-time-event+then-found+then-precedes w ↦
-        rw (w.found-is, w.first-is)
-        (rw w.if-found.true (sooner_in p xs l.i _ h.0 h.1 l.found l.first w.if-time-event.true w.if-found.true (sym w.precedes.ensures ∙ w.if-precedes.true) v.3))
-    | then-time-event+then-found+else-precedes w ↦
-        rw (w.found-is, w.first-is)
-        (rw w.if-found.true (later_in p xs l.i _ h.0 h.1 l.found l.first w.if-time-event.true w.if-found.true (sym w.precedes.ensures ∙ w.if-precedes.false) v.3))
-    | then-time-event+else-found w ↦ rw (w.found-is, w.first-is) (only_in p xs l.i _ h.0 h.1 l.found l.first w.if-time-event.true w.if-found.false v.3)
-    | else-time-event w ↦ rw (w.found-is, w.first-is) (out p xs l.i _ h.0 h.1 l.found l.first w.if-time-event.false v.3)
+      | then-time-event+then-found+then-precedes w ↦
+          rw (w.found-is, w.first-is)
+          (rw w.if-found.true (sooner_in p xs l.i _ h.0 h.1 l.found l.first w.if-time-event.true w.if-found.true (sym w.precedes.ensures ∙ w.if-precedes.true) v.3))
+      | then-time-event+then-found+else-precedes w ↦
+          rw (w.found-is, w.first-is)
+          (rw w.if-found.true (later_in p xs l.i _ h.0 h.1 l.found l.first w.if-time-event.true w.if-found.true (sym w.precedes.ensures ∙ w.if-precedes.false) v.3))
+      | then-time-event+else-found w ↦ rw (w.found-is, w.first-is) (only_in p xs l.i _ h.0 h.1 l.found l.first w.if-time-event.true w.if-found.false v.3)
+      | else-time-event w ↦ rw (w.found-is, w.first-is) (out p xs l.i _ h.0 h.1 l.found l.first w.if-time-event.false v.3)
     ]
 
 pub returns-then-time : goal.returns-then-time

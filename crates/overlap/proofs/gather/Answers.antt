@@ -34,13 +34,13 @@ gathered c =
       omega arith,
       omega arith,
       elim c.if-overlaps.branch [
-        then-overlaps w ↦
-          rw w.count-is
-          (gathering_in _ _ l.i l.count (pairs l.starts l.ids) event h e v.5 _ (sym c.overlaps.ensures ∙ w.if-overlaps.true) (rw (length_pairs l.starts l.ids same) (omega arith))
-          (ap₂ pairs w.starts-is w.ids-is ∙ w.sift_up.ensures
-          ∙ ap₂ (λ (x : Float) (k : ℕ). rise key_less no_key l.count (pairs l.starts l.ids) l.count (x, k)) w.start_of.ensures w.number_of.ensures))
-      | else-overlaps w ↦
-          rw (w.starts-is, w.ids-is, w.count-is) (gathering_out _ _ l.i l.count (pairs l.starts l.ids) event h e v.5 (sym c.overlaps.ensures ∙ w.if-overlaps.false))
+        | then-overlaps w ↦
+            rw w.count-is
+            (gathering_in _ _ l.i l.count (pairs l.starts l.ids) event h e v.5 _ (sym c.overlaps.ensures ∙ w.if-overlaps.true) (rw (length_pairs l.starts l.ids same) (omega arith))
+            (ap₂ pairs w.starts-is w.ids-is ∙ w.sift_up.ensures
+            ∙ ap₂ (λ (x : Float) (k : ℕ). rise key_less no_key l.count (pairs l.starts l.ids) l.count (x, k)) w.start_of.ensures w.number_of.ensures))
+        | else-overlaps w ↦
+            rw (w.starts-is, w.ids-is, w.count-is) (gathering_out _ _ l.i l.count (pairs l.starts l.ids) event h e v.5 (sym c.overlaps.ensures ∙ w.if-overlaps.false))
       ],
     )
 

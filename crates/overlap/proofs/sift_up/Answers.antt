@@ -31,6 +31,6 @@ pub returns : goal.returns
 returns c =
     let v = c.loop-i.invariant in
     elim c.loop-i-test.branch [
-      else-loop-i-test w ↦ up_root _ _ v.2 _ _ _ w.loop-i-test.false v.4
-    | then-loop-i-test+then-not-is_sooner w ↦ up_stop _ _ v.2 _ _ _ (sym w.is_sooner.ensures ∙ w.if-not-is_sooner.true) v.4
+      | else-loop-i-test w ↦ up_root _ _ v.2 _ _ _ w.loop-i-test.false v.4
+      | then-loop-i-test+then-not-is_sooner w ↦ up_stop _ _ v.2 _ _ _ (sym w.is_sooner.ensures ∙ w.if-not-is_sooner.true) v.4
     ]
