@@ -139,7 +139,7 @@ def camels():
     return seen
 
 
-CAMELS = camels()
+CAMELS = camels() | {"digitOf", "hasNumber", "mixedBy", "noPlace"}  # the last four stand in `as` of ghost use lines alone
 
 
 def edit(text):

@@ -9,7 +9,7 @@ use Rattle.floats.specs.Arithmetic.{oneᶠ}
 use Rattle.ledger.specs.Calls.{Call, push, PushKind, absolute, relative, by_duration, number, applied, past, stored, done, refused, Reply}
 use Rattle.apply.specs.RecordCalls.{refusal_of}
 use Rattle.ledger.specs.Ledger.{Ledger, create}
-use Rattle.ledger.specs.LedgerMeets.{pair_of}
+use Rattle.ledger.proofs.LedgerMeets.{pair_of}
 use Rattle.ledger.specs.Steps.{step}
 use Rattle.ledger.specs.Computes.{computes}
 use Rattle.tape.specs.Fields.{field, from_little_endian}
@@ -19,10 +19,10 @@ use Rattle.batch.specs.Run.{Pushed, push_run, push_all, written}
 
 -- 01, from 0.0 to 0.125, no fades, then curve and source bytes, level 1.0, word 0
 abbrev times : List ℕ
-times = 0 ∷ 0 ∷ 0 ∷ 0 ∷ 0 ∷ 0 ∷ 0 ∷ 0 ∷ 0 ∷ 0 ∷ 0 ∷ 0 ∷ 0 ∷ 0 ∷ 0x_c0 ∷ 0x3_f ∷ replicate 16 0
+times = 0 ∷ 0 ∷ 0 ∷ 0 ∷ 0 ∷ 0 ∷ 0 ∷ 0 ∷ 0 ∷ 0 ∷ 0 ∷ 0 ∷ 0 ∷ 0 ∷ 0xc0 ∷ 0x3f ∷ replicate 16 0
 
 abbrev words : List ℕ
-words = 0 ∷ 0 ∷ 0x80 ∷ 0x3_f ∷ 0 ∷ 0 ∷ 0 ∷ 0 ∷ []
+words = 0 ∷ 0 ∷ 0x80 ∷ 0x3f ∷ 0 ∷ 0 ∷ 0 ∷ 0 ∷ []
 
 abbrev pub clip : List ℕ
 clip = 0x01 ∷ (times ++ (1 ∷ 0 ∷ words))
@@ -37,12 +37,12 @@ no_curve = 0x01 ∷ (times ++ (7 ∷ 0 ∷ words))
 -- ---- the record that begins the bytes
 
 -- "A record that is no push stops it as 14": another kind, whole or cut, 00 and an unknown kind
-no_push : (stop_of (0x04 ∷ []) ≡ 14) × (stop_of (0x06 ∷ []) ≡ 14) × (stop_of (0x00 ∷ []) ≡ 14) × (stop_of (0x0_d ∷ []) ≡ 14)
+no_push : (stop_of (0x04 ∷ []) ≡ 14) × (stop_of (0x06 ∷ []) ≡ 14) × (stop_of (0x00 ∷ []) ≡ 14) × (stop_of (0x0d ∷ []) ≡ 14)
 unfolding stop_of push_kind
 no_push = (refl, refl, refl, refl)
 
 -- ".. a cut or missing one as 15"
-cut_or_missing : (stop_of [] ≡ 15) × (stop_of (0x01 ∷ []) ≡ 15) × (stop_of (take 42 clip) ≡ 15) × (stop_of clip ≡ 0) × (stop_of (0x0_a ∷ drop 1 clip) ≡ 15)
+cut_or_missing : (stop_of [] ≡ 15) × (stop_of (0x01 ∷ []) ≡ 15) × (stop_of (take 42 clip) ≡ 15) × (stop_of clip ≡ 0) × (stop_of (0x0a ∷ drop 1 clip) ≡ 15)
 unfolding stop_of push_kind unknown_push size_of sizes
 cut_or_missing = (refl, refl, refl, refl, refl)
 
@@ -54,17 +54,17 @@ curve-byte = (refl, refl, refl)
 -- the call: from 1.0 to 4.0 (or as long), fades of 0.5 and 0.25, curve power, a ramp from 1.0 by 0.5; 0A to 0C have a gain of 2.0
 abbrev ramp : List ℕ
 ramp =
-    0 ∷ 0 ∷ 0 ∷ 0 ∷ 0 ∷ 0 ∷ 0x_f0 ∷ 0x3_f ∷ 0 ∷ 0 ∷ 0 ∷ 0 ∷ 0 ∷ 0 ∷ 0x10 ∷ 0x40 ∷ 0 ∷ 0 ∷ 0 ∷ 0 ∷ 0 ∷ 0 ∷ 0x_e0 ∷ 0x3_f ∷ 0 ∷ 0 ∷ 0 ∷ 0 ∷ 0 ∷ 0 ∷ 0x_d0 ∷ 0x3_f
-    ∷ 0 ∷ 1 ∷ 0 ∷ 0 ∷ 0x80 ∷ 0x3_f ∷ 0 ∷ 0 ∷ 0x00 ∷ 0x3_f ∷ 0 ∷ 0 ∷ 0 ∷ 0x40 ∷ []
+    0 ∷ 0 ∷ 0 ∷ 0 ∷ 0 ∷ 0 ∷ 0xf0 ∷ 0x3f ∷ 0 ∷ 0 ∷ 0 ∷ 0 ∷ 0 ∷ 0 ∷ 0x10 ∷ 0x40 ∷ 0 ∷ 0 ∷ 0 ∷ 0 ∷ 0 ∷ 0 ∷ 0xe0 ∷ 0x3f ∷ 0 ∷ 0 ∷ 0 ∷ 0 ∷ 0 ∷ 0 ∷ 0xd0 ∷ 0x3f
+    ∷ 0 ∷ 1 ∷ 0 ∷ 0 ∷ 0x80 ∷ 0x3f ∷ 0 ∷ 0 ∷ 0x00 ∷ 0x3f ∷ 0 ∷ 0 ∷ 0 ∷ 0x40 ∷ []
 
 abbrev push_of_ramp : PushKind → (gain : Float) → Call
 push_of_ramp kind gain =
-    push kind (of_bits binary64 0x3_ff0000000000000) (of_bits binary64 0x4010000000000000) (of_bits binary64 0x3_fe0000000000000) (of_bits binary64 0x3_fd0000000000000)
-    Power (Ramp (of_bits binary32 0x3_f800000) (of_bits binary32 0x3_f000000)) gain
+    push kind (of_bits binary64 0x3ff0000000000000) (of_bits binary64 0x4010000000000000) (of_bits binary64 0x3fe0000000000000) (of_bits binary64 0x3fd0000000000000)
+    Power (Ramp (of_bits binary32 0x3f800000) (of_bits binary32 0x3f000000)) gain
 
 -- "01 push, 02 relative, 03 by duration", and "the same pushes with four gain bytes"
 calls-of-kinds : (call_of (0x01 ∷ ramp) ≡ push_of_ramp absolute oneᶠ) × (call_of (0x02 ∷ ramp) ≡ push_of_ramp relative oneᶠ) × (call_of (0x03 ∷ ramp) ≡ push_of_ramp by_duration oneᶠ)
-    × (call_of (0x0_a ∷ ramp) ≡ push_of_ramp absolute (of_bits binary32 0x40000000)) × (call_of (0x0_b ∷ ramp) ≡ push_of_ramp relative (of_bits binary32 0x40000000)) × (call_of (0x0_c ∷ ramp) ≡ push_of_ramp by_duration (of_bits binary32 0x40000000))
+    × (call_of (0x0a ∷ ramp) ≡ push_of_ramp absolute (of_bits binary32 0x40000000)) × (call_of (0x0b ∷ ramp) ≡ push_of_ramp relative (of_bits binary32 0x40000000)) × (call_of (0x0c ∷ ramp) ≡ push_of_ramp by_duration (of_bits binary32 0x40000000))
 unfolding call_of push_of source_of field from_little_endian
 calls-of-kinds = (refl, refl, refl, refl, refl, refl)
 
@@ -97,7 +97,7 @@ unfolding after stop_of push_kind unknown_push size_of sizes call_of push_of sou
 left_behind = (refl, refl, refl, refl)
 
 -- a record with gain bytes is longer: the next one begins behind them
-behind_gain : ((after 2 (0x0_a ∷ (drop 1 clip ++ (0 ∷ 0 ∷ 0x80 ∷ 0x3_f ∷ clip)))).numbers ≡ 1 ∷ 2 ∷ []) × ((after 2 (0x0_a ∷ (drop 1 clip ++ (0 ∷ 0 ∷ 0x80 ∷ 0x3_f ∷ [])))).ended ≡ 15)
+behind_gain : ((after 2 (0x0a ∷ (drop 1 clip ++ (0 ∷ 0 ∷ 0x80 ∷ 0x3f ∷ clip)))).numbers ≡ 1 ∷ 2 ∷ []) × ((after 2 (0x0a ∷ (drop 1 clip ++ (0 ∷ 0 ∷ 0x80 ∷ 0x3f ∷ [])))).ended ≡ 15)
 unfolding after stop_of push_kind unknown_push size_of sizes call_of push_of source_of field from_little_endian
 behind_gain = (refl, refl)
 

@@ -65,8 +65,8 @@ fn push_of_kind(
     kind: u8,
     p: PushRecord,
 ) -> Answer
-    ensures engine { engine_of (after times levels marks numbers) ≡ (pushed (push_kind_of kind) (engine_of (before times levels marks numbers)) p).sequencer }
-    ensures answer { result ≡ (pushed (push_kind_of kind) (engine_of (before times levels marks numbers)) p).answer }
+    ensures engine { engine_of (after times.new levels.new marks.new numbers.new) ≡ (pushed (push_kind_of kind) (engine_of (before times.old levels.old marks.old numbers.old)) p).sequencer }
+    ensures answer { result ≡ (pushed (push_kind_of kind) (engine_of (before times.old levels.old marks.old numbers.old)) p).answer }
 {
     match kind {
         1 => live_apply::push(times, levels, marks, numbers, p),
@@ -84,9 +84,9 @@ fn push_record(
     numbers: &mut Numbers,
     bs: &[u8],
 ) -> u64
-    ensures engine { engine_of (after times levels marks numbers)
-        ≡ (push_run engine_call 1 bs.now (engine_of (before times levels marks numbers))).state }
-    ensures answer { result ≡ (push_run engine_call 1 bs.now (engine_of (before times levels marks numbers))).ended }
+    ensures engine { engine_of (after times.new levels.new marks.new numbers.new)
+        ≡ (push_run engine_call 1 bs.now (engine_of (before times.old levels.old marks.old numbers.old))).state }
+    ensures answer { result ≡ (push_run engine_call 1 bs.now (engine_of (before times.old levels.old marks.old numbers.old))).ended }
 {
     let stop = stop_of(bs);
     if stop != 0 {
@@ -110,11 +110,11 @@ pub fn push_records(
     count: usize,
     given: &mut [u64],
 ) -> Batch
-    ensures engine { engine_of (after times levels marks numbers)
-        ≡ (push_records (engine_of (before times levels marks numbers)) records.now count given.old).state }
-    ensures answer { result ≡ batch_of (push_records (engine_of (before times levels marks numbers)) records.now count given.old) }
+    ensures engine { engine_of (after times.new levels.new marks.new numbers.new)
+        ≡ (push_records (engine_of (before times.old levels.old marks.old numbers.old)) records.now count given.old).state }
+    ensures answer { result ≡ batch_of (push_records (engine_of (before times.old levels.old marks.old numbers.old)) records.now count given.old) }
     ensures given { given.new
-        ≡ numbers_after (engine_of (before times levels marks numbers)) records.now count given.old }
+        ≡ numbers_after (engine_of (before times.old levels.old marks.old numbers.old)) records.now count given.old }
 {
     if beyond(count, given.len()) {
         return Batch {

@@ -7,7 +7,7 @@ use Rattle.event.specs.declared.ReplayMode.{ReplayMode}
 use Rattle.ledger.specs.Calls.{Call, Answer, Reply}
 use Rattle.ledger.specs.Ledger.{Ledger, create}
 use Rattle.ledger.specs.Steps.{step, run}
-use Rattle.ledger.specs.Lawful.{Lawful, create_lawful, step_lawful}
+use Rattle.ledger.proofs.Lawful.{Lawful, create_lawful, step_lawful}
 use Rattle.ledger.specs.Claim.{accepted_of, accepted, calls, engine_after, ledger_after, SameReply, AllLend}
 use Rattle.sequencer.specs.declared.Sequencer.{Sequencer}
 use Rattle.claim.specs.Related.{Related}

@@ -8,7 +8,8 @@ use Rattle.overlap.specs.Claim.{Same}
 use Rattle.overlap.specs.Theorem as overlap
 use Rattle.rises.specs.Totals.{Push}
 use Rattle.rises.specs.Reached as rises
-use Rattle.standing.specs.Theorem.{Drawn, drawn}
+use Rattle.standing.specs.Theorem.{Drawn}
+use Rattle.standing.proofs.Theorem.{drawn}
 use Rattle.batch_claim.specs.Lists.{Item, all_numbers, ItemsLend}
 use Rattle.batch_claim.specs.WithBatches.{engine_then, ledger_then, replies_then}
 use Rattle.batch_claim.specs.Theorem.{with_runs}

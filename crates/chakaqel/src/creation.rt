@@ -18,10 +18,10 @@ pub extern "C" fn chakaqel_create(
     mode: u32,
     first: u64,
 ) -> u64
-    ensures engine { engine_of (after times levels marks numbers)
-        ≡ (create_entry (engine_of (before times levels marks numbers)) channels mode first).engine }
-    ensures answer { result ≡ (create_entry (engine_of (before times levels marks numbers)) channels mode first).code }
-    ensures unknown { T (unknown_mode mode) → after times levels marks numbers ≡ before times levels marks numbers }
+    ensures engine { engine_of (after times.new levels.new marks.new numbers.new)
+        ≡ (create_entry (engine_of (before times.old levels.old marks.old numbers.old)) channels mode first).engine }
+    ensures answer { result ≡ (create_entry (engine_of (before times.old levels.old marks.old numbers.old)) channels mode first).code }
+    ensures unknown { T (unknown_mode mode) → after times.new levels.new marks.new numbers.new ≡ before times.old levels.old marks.old numbers.old }
 {
     if 1 < mode {
         return 14;

@@ -20,11 +20,11 @@ pub extern "C" fn chakaqel_edit(
     end_time: f64,
     fade_out: f64,
 ) -> u64
-    ensures engine { engine_of (after times levels marks numbers)
-        ≡ (Edits.edits absolute_end (engine_of (before times levels marks numbers)) (record { 0 = number }) end_time fade_out).sequencer }
+    ensures engine { engine_of (after times.new levels.now marks.now numbers.new)
+        ≡ (Edits.edits absolute_end (engine_of (before times.old levels.now marks.now numbers.old)) (record { 0 = number }) end_time fade_out).sequencer }
     ensures answer { result
-        ≡ code_of (Edits.edits absolute_end (engine_of (before times levels marks numbers)) (record { 0 = number }) end_time fade_out).answer }
-    ensures refused { T (refusal result) → after times levels marks numbers ≡ before times levels marks numbers }
+        ≡ code_of (Edits.edits absolute_end (engine_of (before times.old levels.now marks.now numbers.old)) (record { 0 = number }) end_time fade_out).answer }
+    ensures refused { T (refusal result) → after times.new levels.now marks.now numbers.new ≡ before times.old levels.now marks.now numbers.old }
 {
     let answer = live::edit(
         times,
@@ -49,11 +49,11 @@ pub extern "C" fn chakaqel_edit_relative(
     end_time: f64,
     fade_out: f64,
 ) -> u64
-    ensures engine { engine_of (after times levels marks numbers)
-        ≡ (Edits.edits relative_end (engine_of (before times levels marks numbers)) (record { 0 = number }) end_time fade_out).sequencer }
+    ensures engine { engine_of (after times.new levels.now marks.now numbers.new)
+        ≡ (Edits.edits relative_end (engine_of (before times.old levels.now marks.now numbers.old)) (record { 0 = number }) end_time fade_out).sequencer }
     ensures answer { result
-        ≡ code_of (Edits.edits relative_end (engine_of (before times levels marks numbers)) (record { 0 = number }) end_time fade_out).answer }
-    ensures refused { T (refusal result) → after times levels marks numbers ≡ before times levels marks numbers }
+        ≡ code_of (Edits.edits relative_end (engine_of (before times.old levels.now marks.now numbers.old)) (record { 0 = number }) end_time fade_out).answer }
+    ensures refused { T (refusal result) → after times.new levels.now marks.now numbers.new ≡ before times.old levels.now marks.now numbers.old }
 {
     let answer = live::edit_relative(
         times,

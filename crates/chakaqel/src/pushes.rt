@@ -29,14 +29,14 @@ pub extern "C" fn chakaqel_push(
     length: u32,
     gain: f32,
 ) -> u64
-    ensures engine { engine_of (after times levels marks numbers)
-        ≡ (push_entry absolute (engine_of (before times levels marks numbers)) told.old
+    ensures engine { engine_of (after times.new levels.new marks.new numbers.new)
+        ≡ (push_entry absolute (engine_of (before times.old levels.old marks.old numbers.old)) told.old
         start_time end_time curve fade_in fade_out source a b offset length gain).engine }
-    ensures answer { result ≡ (push_entry absolute (engine_of (before times levels marks numbers)) told.old
+    ensures answer { result ≡ (push_entry absolute (engine_of (before times.old levels.old marks.old numbers.old)) told.old
         start_time end_time curve fade_in fade_out source a b offset length gain).code }
-    ensures told { told.new ≡ (push_entry absolute (engine_of (before times levels marks numbers)) told.old
+    ensures told { told.new ≡ (push_entry absolute (engine_of (before times.old levels.old marks.old numbers.old)) told.old
         start_time end_time curve fade_in fade_out source a b offset length gain).told }
-    ensures refused { T (refusal result) → after times levels marks numbers ≡ before times levels marks numbers }
+    ensures refused { T (refusal result) → after times.new levels.new marks.new numbers.new ≡ before times.old levels.old marks.old numbers.old }
 {
     if unknown_voice(curve, source) {
         return 14;
@@ -78,14 +78,14 @@ pub extern "C" fn chakaqel_push_relative(
     length: u32,
     gain: f32,
 ) -> u64
-    ensures engine { engine_of (after times levels marks numbers)
-        ≡ (push_entry relative (engine_of (before times levels marks numbers)) told.old
+    ensures engine { engine_of (after times.new levels.new marks.new numbers.new)
+        ≡ (push_entry relative (engine_of (before times.old levels.old marks.old numbers.old)) told.old
         start_time end_time curve fade_in fade_out source a b offset length gain).engine }
-    ensures answer { result ≡ (push_entry relative (engine_of (before times levels marks numbers)) told.old
+    ensures answer { result ≡ (push_entry relative (engine_of (before times.old levels.old marks.old numbers.old)) told.old
         start_time end_time curve fade_in fade_out source a b offset length gain).code }
-    ensures told { told.new ≡ (push_entry relative (engine_of (before times levels marks numbers)) told.old
+    ensures told { told.new ≡ (push_entry relative (engine_of (before times.old levels.old marks.old numbers.old)) told.old
         start_time end_time curve fade_in fade_out source a b offset length gain).told }
-    ensures refused { T (refusal result) → after times levels marks numbers ≡ before times levels marks numbers }
+    ensures refused { T (refusal result) → after times.new levels.new marks.new numbers.new ≡ before times.old levels.old marks.old numbers.old }
 {
     if unknown_voice(curve, source) {
         return 14;
@@ -127,14 +127,14 @@ pub extern "C" fn chakaqel_push_duration(
     length: u32,
     gain: f32,
 ) -> u64
-    ensures engine { engine_of (after times levels marks numbers)
-        ≡ (push_entry by_duration (engine_of (before times levels marks numbers)) told.old
+    ensures engine { engine_of (after times.new levels.new marks.new numbers.new)
+        ≡ (push_entry by_duration (engine_of (before times.old levels.old marks.old numbers.old)) told.old
         start_time duration curve fade_in fade_out source a b offset length gain).engine }
-    ensures answer { result ≡ (push_entry by_duration (engine_of (before times levels marks numbers)) told.old
+    ensures answer { result ≡ (push_entry by_duration (engine_of (before times.old levels.old marks.old numbers.old)) told.old
         start_time duration curve fade_in fade_out source a b offset length gain).code }
-    ensures told { told.new ≡ (push_entry by_duration (engine_of (before times levels marks numbers)) told.old
+    ensures told { told.new ≡ (push_entry by_duration (engine_of (before times.old levels.old marks.old numbers.old)) told.old
         start_time duration curve fade_in fade_out source a b offset length gain).told }
-    ensures refused { T (refusal result) → after times levels marks numbers ≡ before times levels marks numbers }
+    ensures refused { T (refusal result) → after times.new levels.new marks.new numbers.new ≡ before times.old levels.old marks.old numbers.old }
 {
     if unknown_voice(curve, source) {
         return 14;

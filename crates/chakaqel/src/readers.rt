@@ -16,7 +16,7 @@ pub extern "C" fn chakaqel_time(
     marks: &Marks,
     numbers: &Numbers,
 ) -> f64
-    ensures { result ≡ (engine_of (before times levels marks numbers)).time }
+    ensures { result ≡ (engine_of (before times.now levels.now marks.now numbers.now)).time }
 {
     live::time(times, levels, marks, numbers)
 }
@@ -30,7 +30,7 @@ pub extern "C" fn chakaqel_counts(
     numbers: &Numbers,
     told: &mut [u64; 4],
 )
-    ensures { told.new ≡ counts_by (counts_of (engine_of (before times levels marks numbers))) told.old }
+    ensures { told.new ≡ counts_by (counts_of (engine_of (before times.now levels.now marks.now numbers.now))) told.old }
 {
     let c = live::counts(times, levels, marks, numbers);
     told[0] = c.waiting as u64;
@@ -48,7 +48,7 @@ pub extern "C" fn chakaqel_place(
     numbers: &Numbers,
     number: u64,
 ) -> u64
-    ensures { result ≡ place_code (place_in (engine_of (before times levels marks numbers)) (record { 0 = number })) }
+    ensures { result ≡ place_code (place_in (engine_of (before times.now levels.now marks.now numbers.now)) (record { 0 = number })) }
 {
     let found = live::place(times, levels, marks, numbers, EventId(number));
     match found {

@@ -18,11 +18,11 @@ pub extern "C" fn chakaqel_tick(
     pool: &[f32],
     out: &mut [f32],
 ) -> u64
-    ensures engine { engine_of (after times levels marks numbers)
-        ≡ (tick_entry (engine_of (before times levels marks numbers)) mark pool.now out.old).engine }
-    ensures samples { out.new ≡ (tick_entry (engine_of (before times levels marks numbers)) mark pool.now out.old).samples }
-    ensures answer { result ≡ (tick_entry (engine_of (before times levels marks numbers)) mark pool.now out.old).code }
-    ensures refused { T (refusal result) → after times levels marks numbers ≡ before times levels marks numbers }
+    ensures engine { engine_of (after times.new levels.new marks.new numbers.new)
+        ≡ (tick_entry (engine_of (before times.old levels.old marks.old numbers.old)) mark pool.now out.old).engine }
+    ensures samples { out.new ≡ (tick_entry (engine_of (before times.old levels.old marks.old numbers.old)) mark pool.now out.old).samples }
+    ensures answer { result ≡ (tick_entry (engine_of (before times.old levels.old marks.old numbers.old)) mark pool.now out.old).code }
+    ensures refused { T (refusal result) → after times.new levels.new marks.new numbers.new ≡ before times.old levels.old marks.old numbers.old }
 {
     if 1 < mark {
         return 14;
@@ -46,16 +46,16 @@ pub extern "C" fn chakaqel_process(
     pool: &[f32],
     out: &mut [f32],
 ) -> u64
-    ensures engine { engine_of (after times levels marks numbers)
-        ≡ (process_entry (engine_of (before times levels marks numbers)) places.old mark size
+    ensures engine { engine_of (after times.new levels.new marks.new numbers.new)
+        ≡ (process_entry (engine_of (before times.old levels.old marks.old numbers.old)) places.old mark size
         pool.now out.old).engine }
-    ensures samples { out.new ≡ (process_entry (engine_of (before times levels marks numbers)) places.old mark size
+    ensures samples { out.new ≡ (process_entry (engine_of (before times.old levels.old marks.old numbers.old)) places.old mark size
         pool.now out.old).samples }
-    ensures answer { result ≡ (process_entry (engine_of (before times levels marks numbers)) places.old mark size
+    ensures answer { result ≡ (process_entry (engine_of (before times.old levels.old marks.old numbers.old)) places.old mark size
         pool.now out.old).code }
-    ensures places { places.new ≡ (process_entry (engine_of (before times levels marks numbers)) places.old mark size
+    ensures places { places.new ≡ (process_entry (engine_of (before times.old levels.old marks.old numbers.old)) places.old mark size
         pool.now out.old).told }
-    ensures refused { T (refusal result) → after times levels marks numbers ≡ before times levels marks numbers }
+    ensures refused { T (refusal result) → after times.new levels.new marks.new numbers.new ≡ before times.old levels.old marks.old numbers.old }
 {
     if 1 < mark {
         return 14;

@@ -15,7 +15,7 @@ pub extern "C" fn chakaqel_reset(
     marks: &mut Marks,
     numbers: &mut Numbers,
 )
-    ensures { engine_of (after times levels marks numbers) ≡ resets (engine_of (before times levels marks numbers)) }
+    ensures { engine_of (after times.new levels.new marks.new numbers.new) ≡ resets (engine_of (before times.old levels.old marks.old numbers.old)) }
 {
     live::reset(times, levels, marks, numbers);
 }
@@ -29,9 +29,9 @@ pub extern "C" fn chakaqel_set_sample_rate(
     numbers: &mut Numbers,
     rate: f64,
 ) -> u64
-    ensures engine { engine_of (after times levels marks numbers) ≡ (rates (engine_of (before times levels marks numbers)) rate).sequencer }
-    ensures answer { result ≡ code_of (rates (engine_of (before times levels marks numbers)) rate).answer }
-    ensures refused { T (refusal result) → after times levels marks numbers ≡ before times levels marks numbers }
+    ensures engine { engine_of (after times.new levels.new marks.new numbers.new) ≡ (rates (engine_of (before times.old levels.old marks.old numbers.old)) rate).sequencer }
+    ensures answer { result ≡ code_of (rates (engine_of (before times.old levels.old marks.old numbers.old)) rate).answer }
+    ensures refused { T (refusal result) → after times.new levels.new marks.new numbers.new ≡ before times.old levels.old marks.old numbers.old }
 {
     let answer = live::set_sample_rate(times, levels, marks, numbers, rate);
     code_of(answer)

@@ -26,9 +26,9 @@ module _ (s : Sequencer) (e : Event) where
   unfolding pushed_event
   pushed_active_lem h = rw h
 
-  pushed_ready : lt e.start_time s.active_threshold ≡ false → pushed_event s e ≡ pushed_ready s e
+  pushed_ready_lem : lt e.start_time s.active_threshold ≡ false → pushed_event s e ≡ pushed_ready s e
   unfolding pushed_event
-  pushed_ready h = rw h
+  pushed_ready_lem h = rw h
 
 module _ (l : Ledger) (e : Event) where
   enter_active : lt e.start_time l.threshold ≡ true → (l.waiting ≡ (enter l e).waiting) × (l.sounding ++ (e ∷ []) ≡ (enter l e).sounding)
@@ -68,7 +68,7 @@ related_push-event s l e room r = go (lt e.start_time l.threshold) refl
     go false h =
         let k = enter_ready l e h in
         let p : s.ready_len < 256 = omega (arith, room, waits-length r.lists.0) in
-        subst Goal (sym (pushed_ready s e (at false h)))
+        subst Goal (sym (pushed_ready_lem s e (at false h)))
         (record {
           lists = turn (pushed_ready s e) k.0 k.1 (lists_ready s e _ _ _ _ p r.lists);
           plain = (r.plain.0, r.plain.1, r.plain.2, r.plain.3, r.plain.4, r.plain.5, n, r.plain.7);

@@ -8,7 +8,7 @@ use Rattle.floats.specs.Arithmetic.{◌-ᵈ◌, ◌<ᶠ◌}
 use Rattle.ledger.specs.Calls.{Call, push, edit, tick, block, rate, reset, refused, Reply}
 use Rattle.ledger.specs.Refusals.{stated_end, edit_end}
 use Rattle.ledger.specs.Steps.{pushed_time}
-use Rattle.ledger.specs.Refused.{lent_out, refused_with}
+use Rattle.ledger.proofs.Refused.{lent_out, refused_with}
 use Rattle.refusals.specs.Refusals.{push_refusal, edit_refusal, tick_refusal, process_refusal, rate_refusal}
 use Rattle.lists.specs.declared.Found.{Found}
 use Rattle.lists.specs.declared.Found.TheVariants.{At, Nothing}

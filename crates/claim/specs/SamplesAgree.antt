@@ -18,9 +18,9 @@ use Rattle.lists.specs.Holds.{holds_to, holds-length}
 use Rattle.lists.specs.Sounding.{id_of}
 use Rattle.ledger.specs.TickSamples.{after_tick, tick_sum}
 use Rattle.ledger.specs.BlockSamples.{Span, first_place, end_place, channel_after, scratch_after, after_block, block_sum}
-use Rattle.ledger.specs.FormerMethod as Former
+use Rattle.ledger.proofs.FormerMethod as Former
 use Rattle.ledger.specs.Places.{event_placings, placings}
-use Rattle.ledger.specs.PlacesWithin.{placings-within}
+use Rattle.ledger.proofs.PlacesWithin.{placings-within}
 use Rattle.ledger.specs.Ledger.{Ledger}
 use Rattle.ledger.specs.Steps as Plain
 use Rattle.ledger.specs.Steps.{cleared, in_order}

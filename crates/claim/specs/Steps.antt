@@ -24,11 +24,11 @@ use Rattle.ledger.specs.BlockSamples.{Span, BlockSum, block_sum, overlay}
 use Rattle.ledger.specs.Ledger.{Ledger, held}
 use Rattle.ledger.specs.Refusals.{first_of, checks, push_checks, edit_checks, refusal, stated_end, edit_end, missing}
 use Rattle.ledger.specs.Refusals as Checks
-use Rattle.ledger.specs.Refused.{AllPass, all_pass}
+use Rattle.ledger.proofs.Refused.{AllPass, all_pass}
 use Rattle.ledger.specs.Steps as Plain
 use Rattle.ledger.specs.Steps.{step, decide, accept, refused_reply, pushed_time, change, advance, in_order, cleared}
-use Rattle.ledger.specs.Lawful.{Lawful}
-use Rattle.ledger.specs.LedgerMeets.{same_reply}
+use Rattle.ledger.proofs.Lawful.{Lawful}
+use Rattle.ledger.proofs.LedgerMeets.{same_reply}
 use Rattle.ledger.specs.Claim.{SameReply, Lends}
 use Rattle.sequencer.specs.declared.Sequencer.{Sequencer}
 use Rattle.sequencer.specs.declared.Outcome.{Outcome}

@@ -10,7 +10,7 @@ use Rattle.event.specs.declared.StoredEdit.{StoredEdit}
 use Rattle.event.specs.Blank.{blank}
 use Rattle.ledger.specs.Ledger.{Ledger}
 use Rattle.ledger.specs.Lists.{last_first, Swept, sweep}
-use Rattle.ledger.specs.Sums.{length-last_first}
+use Rattle.ledger.proofs.Sums.{length-last_first}
 use Rattle.lists.specs.Holds.{Holds, holds-length, holds_at}
 use Rattle.lists.specs.Index.{no_id}
 use Rattle.lists.specs.Sounding.{listed-swap}

@@ -8,8 +8,8 @@ use Rattle.ledger.specs.Ledger.{Ledger, create}
 use Rattle.ledger.specs.Refusals.{refusal}
 use Rattle.ledger.specs.Steps.{Outcome, accept, decide, step, run}
 use Rattle.ledger.specs.Claim.{Engine, calls, ledger_after, SameState, SameReply, IndexGivesPlaces, Lends, AllLend, Claim}
-use Rattle.ledger.specs.Lawful.{step_lawful}
-use Rattle.ledger.specs.ClaimByRelation.{claim_by_relation, reached}
+use Rattle.ledger.proofs.Lawful.{step_lawful}
+use Rattle.ledger.proofs.ClaimByRelation.{claim_by_relation, reached}
 use Rattle.sequencer.specs.declared.Sequencer.{Sequencer}
 use Rattle.claim.specs.Related.{Related}
 use Rattle.claim.specs.Creating.{related_creation}

@@ -13,7 +13,7 @@ use Rattle.ledger.specs.Calls.{PushKind, absolute, relative, by_duration, absolu
 use Rattle.ledger.specs.Lists.{numbers}
 use Rattle.ledger.specs.Ledger.{Ledger, fresh}
 use Rattle.ledger.specs.Steps.{with_lists}
-use Rattle.ledger.specs.CasesOfSlips.{ends_of}
+use Rattle.ledger.proofs.CasesOfSlips.{ends_of}
 use Rattle.desk.specs.Desk.{Message, push, edit, reset, tick, block, rate, Call, front, back, Answer, number, queued, done, refused, Reply, Desk, opened, run, computes}
 use Rattle.desk.specs.CasesOfSlips.{held1, event, desk}
 

@@ -1,4 +1,4 @@
--- The claim about a desk with an engine, given by its creation, its calls and its view: one claim about every list of front and back calls, with any arguments, refused ones included, and whatever is lent. It has no proof here: `specs.ClaimByRelation` has the way to one.
+-- The claim about a desk with an engine, given by its creation, its calls and its view: one claim about every list of front and back calls, with any arguments, refused ones included, and whatever is lent. It has no proof here: `proofs.ClaimByRelation` has the way to one.
 use Rattle.std.specs.Prelude.{ℕ, suc, ◌+◌, ◌^◌, ◌%◌, ◌<◌, ◌≡◌, Bool, true, false, cond, length}
 use mathlib.Core.List.{List, [], ◌∷◌, ◌++◌, Memᴰ}
 use Rattle.event.specs.declared.Edit.{Edit}

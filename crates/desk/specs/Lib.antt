@@ -3,11 +3,8 @@ pub mod Desk
 pub mod MixOrders
 pub mod Claim
 pub mod FreshEnd
-pub mod LetGo
 pub mod Lawful
-pub mod LawfulCalls
 pub mod Partition
-pub mod ClaimByRelation
 pub mod DeskMeets
 pub mod CasesOfSlips
 pub mod CasesOfCalls

@@ -13,7 +13,7 @@ use Rattle.ledger.specs.Ledger.{Ledger}
 use Rattle.ledger.specs.Refusals.{first_of, checks, refusal}
 use Rattle.ledger.specs.Steps as Steps
 use Rattle.ledger.specs.Steps.{accept, advance, block_places}
-use Rattle.ledger.specs.Lawful.{Lawful}
+use Rattle.ledger.proofs.Lawful.{Lawful}
 use Rattle.refusals.specs.Refusals.{tick_refusal, process_refusal, rate_refusal}
 use Rattle.sequencer.specs.declared.Sequencer.{Sequencer}
 use Rattle.sequencer.specs.Answers as Engine
@@ -28,7 +28,8 @@ use Rattle.claim.specs.EngineCalls as EngineClaim
 use Rattle.claim.specs.Steps as Claim
 use Rattle.desk.specs.Desk as Plain
 use Rattle.desk.specs.Desk.{tick, block, rate, reset, back, Reply, done, rendered, Desk, with_back, send_finished, desk_refusal, acts, carried_out, decide, step}
-use Rattle.desk.specs.Lawful.{DeskLawful, accept_lawful, drained_lawful, drained-empty, drained_free}
+use Rattle.desk.specs.Lawful.{DeskLawful}
+use Rattle.desk.proofs.Lawful.{accept_lawful, drained_lawful, drained-empty, drained_free}
 use Rattle.realseq.specs.declared.SequencerBackend.{SequencerBackend}
 use Rattle.realseq.specs.Handling as Handling
 use Rattle.realseq.specs.Handling.{past_sent_by, past_sent, drained}

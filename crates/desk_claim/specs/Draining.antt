@@ -11,7 +11,8 @@ use Rattle.desk.specs.Desk as Plain
 use Rattle.desk.specs.Desk.{push, edit, reset, Desk, pushes_in, drain}
 use Rattle.desk.specs.Relative.{is_relative, end_relative}
 use Rattle.desk.specs.Lawful as Laws
-use Rattle.desk.specs.Lawful.{DeskLawful, desk_of, handled_lawful, drain_lawful, drain_queued}
+use Rattle.desk.specs.Lawful.{DeskLawful, desk_of}
+use Rattle.desk.proofs.Lawful.{handled_lawful, drain_lawful, drain_queued}
 use Rattle.realseq.specs.declared.SequencerBackend.{SequencerBackend}
 use Rattle.realseq.specs.Queues.{is_reset}
 use Rattle.realseq.specs.Handling.{restarted, stepped, handled, drained}

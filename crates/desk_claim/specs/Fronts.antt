@@ -17,7 +17,7 @@ use Rattle.desk.specs.Desk as Plain
 use Rattle.desk.specs.Desk.{push, edit, reset, front, Reply, number, Desk, pushes_in, next_number, front_checks, desk_refusal, sends, carried_out, step}
 use Rattle.desk.specs.Relative.{is_relative}
 use Rattle.desk.specs.Lawful.{DeskLawful}
-use Rattle.desk.specs.LawfulCalls.{pushes-last, sends_lawful}
+use Rattle.desk.proofs.LawfulCalls.{pushes-last, sends_lawful}
 use Rattle.realseq.specs.declared.SequencerBackend.{SequencerBackend}
 use Rattle.realseq.specs.declared.Outcome.{Outcome}
 use Rattle.realseq.specs.declared.Answer.TheVariants.{Number, Queued}

@@ -7,7 +7,7 @@ use Rattle.event.specs.declared.ReplayMode.{ReplayMode}
 use Rattle.event.specs.declared.ReplayMode.TheVariants.{All, None}
 use Rattle.ledger.specs.Lists.{numbers}
 use Rattle.ledger.specs.Steps.{restart}
-use Rattle.ledger.specs.Lawful.{Lawful}
+use Rattle.ledger.proofs.Lawful.{Lawful}
 use Rattle.lists.specs.Holds.{holds-length, holds-none}
 use Rattle.sequencer.specs.Moves.{heap_of, released_past}
 use Rattle.sequencer.specs.Resets.{reset_by}

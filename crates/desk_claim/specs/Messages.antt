@@ -28,7 +28,8 @@ use Rattle.claim.specs.Changing.{related_change}
 use Rattle.desk.specs.Desk as Plain
 use Rattle.desk.specs.Desk.{push, edit, reset, pushes_in}
 use Rattle.desk.specs.Relative.{is_relative, end_relative}
-use Rattle.desk.specs.Lawful.{DeskLawful, desk_of, handled, handled-next, pushes-first}
+use Rattle.desk.specs.Lawful.{DeskLawful, desk_of, handled}
+use Rattle.desk.proofs.Lawful.{handled-next, pushes-first}
 use Rattle.realseq.specs.declared.SequencerBackend.{SequencerBackend}
 use Rattle.realseq.specs.declared.queues.Message.{Message}
 use Rattle.realseq.specs.declared.queues.Message.TheVariants.{Reset, Push, PushRelative, Edit as Amend, EditRelative}

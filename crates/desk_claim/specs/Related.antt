@@ -14,7 +14,8 @@ use Rattle.desk.specs.Desk as Plain
 use Rattle.desk.specs.Desk.{push, edit, reset, Desk, pushes_in, edits_in, next_number}
 use Rattle.desk.specs.Claim.{Sent, event, change, restart, sent_from}
 use Rattle.desk.specs.Relative.{is_relative, end_relative}
-use Rattle.desk.specs.Lawful.{desk_of, pushes-first, edits-first}
+use Rattle.desk.specs.Lawful.{desk_of}
+use Rattle.desk.proofs.Lawful.{pushes-first, edits-first}
 use Rattle.realseq.specs.declared.SequencerBackend.{SequencerBackend}
 use Rattle.realseq.specs.declared.queues.Message.{Message}
 use Rattle.realseq.specs.declared.queues.Message.TheVariants.{Reset, Push, PushRelative, Edit as Amend, EditRelative}

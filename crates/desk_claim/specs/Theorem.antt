@@ -14,8 +14,8 @@ use Rattle.claim.specs.View.{view_of}
 use Rattle.desk.specs.Desk.{push, edit, reset, tick, block, rate, Call, front, back, Desk, Outcome, next_number, opened, desk_refusal, carried_out, decide, step}
 use Rattle.desk.specs.Claim.{calls, desk_after, DeskClaim, sent_from}
 use Rattle.desk.specs.Lawful.{DeskLawful}
-use Rattle.desk.specs.LawfulCalls.{step_lawful}
-use Rattle.desk.specs.ClaimByRelation.{desk-claim_by_relation, reached}
+use Rattle.desk.proofs.LawfulCalls.{step_lawful}
+use Rattle.desk.proofs.ClaimByRelation.{desk-claim_by_relation, reached}
 use Rattle.realseq.specs.declared.SequencerBackend.{SequencerBackend}
 use Rattle.desk_claim.specs.Related.{shown, messages_shown, DeskRelated, opened_related}
 use Rattle.desk_claim.specs.EngineCalls.{desk_new, desk_call, desk_view, desk_engine}

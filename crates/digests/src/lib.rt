@@ -2,11 +2,11 @@
 #![tactic(auto)]
 
 ghost use Rattle.std.specs.Prelude.{◌≡◌};
-ghost use Rattle.digests.specs.Digests.{mixed as mixedBy, mixed_all};
+ghost use Rattle.digests.specs.Digests.{mixed as mixed_by, mixed_all};
 
 // The digest with one more number in it.
 pub fn mixed(digest: u64, value: u64) -> u64
-    ensures { result ≡ mixedBy digest value }
+    ensures { result ≡ mixed_by digest value }
 {
     let turned = (digest % 0x200_0000_0000_0000) * 128 + digest / 0x200_0000_0000_0000;
     std::num::wrapping_add_u64(turned, value)

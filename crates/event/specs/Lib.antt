@@ -4,8 +4,6 @@ pub mod SourceStays
 pub mod Runs
 pub mod Events
 pub mod Blank
-pub mod StartsFirst
 pub mod Numbers
-pub mod Cases
 pub mod Placings
 pub mod PlacingCounts

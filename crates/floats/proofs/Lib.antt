@@ -3,3 +3,4 @@ mod Fields
 mod Patterns
 mod Index
 mod Compared
+pub mod Phases

@@ -15,4 +15,3 @@ pub mod TotalOrder
 pub mod Cases
 pub mod IndexNearest
 pub mod Sooner
-pub mod Phases

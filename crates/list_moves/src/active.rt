@@ -17,7 +17,7 @@ use memory::{
 
 // The place of a number in the sounding list.
 pub fn place(times: &Times, levels: &Levels, marks: &Marks, numbers: &Numbers, id: EventId) -> Found
-    ensures { result ≡ place_in (engine_of (before times levels marks numbers)) id }
+    ensures { result ≡ place_in (engine_of (before times.now levels.now marks.now numbers.now)) id }
 {
     seek(numbers, INDEX, numbers[SOUNDING] as usize, id.0)
 }
@@ -30,7 +30,7 @@ pub(crate) fn append(
     numbers: &mut Numbers,
     event: Event,
 )
-    ensures { engine_of (after times levels marks numbers) ≡ pushed_active (engine_of (before times levels marks numbers)) event }
+    ensures { engine_of (after times.new levels.new marks.new numbers.new) ≡ pushed_active (engine_of (before times.old levels.old marks.old numbers.old)) event }
 {
     sized(times, levels, marks, numbers);
     let n = numbers[SOUNDING] as usize;
@@ -45,12 +45,12 @@ pub(crate) fn append(
 // Copies the sounding event at place i to the end of the finished list, where there is room.
 fn keep(times: &mut Times, levels: &mut Levels, marks: &mut Marks, numbers: &mut Numbers, i: usize)
     requires { i < 256 }
-    ensures room { (engine_of (before times levels marks numbers)).past_len < 256
-        → engine_of (after times levels marks numbers) ≡ with_past (engine_of (before times levels marks numbers))
-        (slice_set (engine_of (before times levels marks numbers)).past (engine_of (before times levels marks numbers)).past_len
-        (slice_index_or (engine_of (before times levels marks numbers)).active i blank)) ((engine_of (before times levels marks numbers)).past_len + 1) }
-    ensures full { 256 ≤ (engine_of (before times levels marks numbers)).past_len
-        → engine_of (after times levels marks numbers) ≡ engine_of (before times levels marks numbers) }
+    ensures room { (engine_of (before times.old levels.old marks.old numbers.old)).past_len < 256
+        → engine_of (after times.new levels.new marks.new numbers.new) ≡ with_past (engine_of (before times.old levels.old marks.old numbers.old))
+        (slice_set (engine_of (before times.old levels.old marks.old numbers.old)).past (engine_of (before times.old levels.old marks.old numbers.old)).past_len
+        (slice_index_or (engine_of (before times.old levels.old marks.old numbers.old)).active i blank)) ((engine_of (before times.old levels.old marks.old numbers.old)).past_len + 1) }
+    ensures full { 256 ≤ (engine_of (before times.old levels.old marks.old numbers.old)).past_len
+        → engine_of (after times.new levels.new marks.new numbers.new) ≡ engine_of (before times.old levels.old marks.old numbers.old) }
 {
     sized(times, levels, marks, numbers);
     let k = numbers[FINISHED] as usize;
@@ -70,7 +70,7 @@ fn fill(
     n: usize,
 )
     requires { (i < n) × (n ≤ 256) × (n ≡ (engine_of (cells_of times.old levels.old marks.old numbers.old)).active_len) }
-    ensures { engine_of (after times levels marks numbers) ≡ filled_by_last (engine_of (before times levels marks numbers)) i }
+    ensures { engine_of (after times.new levels.new marks.new numbers.new) ≡ filled_by_last (engine_of (before times.old levels.old marks.old numbers.old)) i }
 {
     sized(times, levels, marks, numbers);
     let last = n - 1;
@@ -88,7 +88,7 @@ pub fn active_to_past(
     numbers: &mut Numbers,
     limit: f64,
 )
-    ensures { engine_of (after times levels marks numbers) ≡ active_to_past (engine_of (before times levels marks numbers)) limit }
+    ensures { engine_of (after times.new levels.new marks.new numbers.new) ≡ active_to_past (engine_of (before times.old levels.old marks.old numbers.old)) limit }
 {
     let mut n = numbers[SOUNDING] as usize;
     if ROOM < n {
@@ -108,8 +108,8 @@ pub fn active_to_past(
 
 // Lets the finished events go, in mode None.
 pub fn release_past(times: &Times, levels: &Levels, marks: &Marks, numbers: &mut Numbers)
-    ensures { engine_of (after times levels marks numbers)
-        ≡ released_past (engine_of (before times levels marks numbers)) (engine_of (before times levels marks numbers)).mode }
+    ensures { engine_of (after times.now levels.now marks.now numbers.new)
+        ≡ released_past (engine_of (before times.now levels.now marks.now numbers.old)) (engine_of (before times.now levels.now marks.now numbers.old)).mode }
 {
     sized(times, levels, marks, numbers);
     if numbers[MODE] == 0 {

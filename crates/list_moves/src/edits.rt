@@ -33,7 +33,7 @@ pub(crate) fn seek(numbers: &Numbers, first: usize, n: usize, id: u64) -> Found
 
 // The place of the stored edit of a number.
 fn find_edit(times: &Times, levels: &Levels, marks: &Marks, numbers: &Numbers, id: EventId) -> Found
-    ensures { result ≡ placed (engine_of (before times levels marks numbers)).edit_map id }
+    ensures { result ≡ placed (engine_of (before times.now levels.now marks.now numbers.now)).edit_map id }
 {
     seek(numbers, EDIT_NUMBERS, numbers[EDITS] as usize, id.0)
 }
@@ -49,8 +49,8 @@ fn put_edit(
     edit: Edit,
 )
     requires { j < 256 }
-    ensures { after times levels marks numbers
-        ≡ with_edit (before times levels marks numbers) j id edit.end_time edit.fade_out }
+    ensures { after times.new levels.now marks.now numbers.new
+        ≡ with_edit (before times.old levels.now marks.now numbers.old) j id edit.end_time edit.fade_out }
 {
     times[EDIT_TIMES + 2 * j] = edit.end_time;
     times[EDIT_TIMES + 1 + 2 * j] = edit.fade_out;
@@ -66,12 +66,12 @@ pub fn store_edit(
     id: EventId,
     edit: Edit,
 ) -> bool
-    ensures engine { engine_of (after times levels marks numbers)
-        ≡ with_edits (engine_of (before times levels marks numbers))
-        (EditMaps.stored (engine_of (before times levels marks numbers)).edit_map id edit) }
-    ensures full { result ≡ roomless Nothing false (found_edit (engine_of (before times levels marks numbers)).edit_map id)
-        (engine_of (before times levels marks numbers)).edit_map.len }
-    ensures refused { result ≡ true → after times levels marks numbers ≡ before times levels marks numbers }
+    ensures engine { engine_of (after times.new levels.now marks.now numbers.new)
+        ≡ with_edits (engine_of (before times.old levels.now marks.now numbers.old))
+        (EditMaps.stored (engine_of (before times.old levels.now marks.now numbers.old)).edit_map id edit) }
+    ensures full { result ≡ roomless Nothing false (found_edit (engine_of (before times.old levels.now marks.now numbers.old)).edit_map id)
+        (engine_of (before times.old levels.now marks.now numbers.old)).edit_map.len }
+    ensures refused { result ≡ true → after times.new levels.now marks.now numbers.new ≡ before times.old levels.now marks.now numbers.old }
 {
     sized(times, levels, marks, numbers);
     let found = find_edit(times, levels, marks, numbers, id);
@@ -102,8 +102,8 @@ fn close_gap(
     n: usize,
 )
     requires { (at < n) × (n ≤ 256) × (n ≡ (engine_of (cells_of times.old levels.now marks.now numbers.old)).edit_map.len) }
-    ensures { engine_of (after times levels marks numbers)
-        ≡ with_edits (engine_of (before times levels marks numbers)) (removed_at (engine_of (before times levels marks numbers)).edit_map (At at)) }
+    ensures { engine_of (after times.new levels.now marks.now numbers.new)
+        ≡ with_edits (engine_of (before times.old levels.now marks.now numbers.old)) (removed_at (engine_of (before times.old levels.now marks.now numbers.old)).edit_map (At at)) }
 {
     sized(times, levels, marks, numbers);
     let m = n - 1;
@@ -141,9 +141,9 @@ pub(crate) fn take_edit(
     numbers: &mut Numbers,
     event: Event,
 ) -> Event
-    ensures engine { engine_of (after times levels marks numbers)
-        ≡ with_edits (engine_of (before times levels marks numbers)) (removed (engine_of (before times levels marks numbers)).edit_map event.id) }
-    ensures answer { result ≡ edited_if (found_edit (engine_of (before times levels marks numbers)).edit_map event.id) event }
+    ensures engine { engine_of (after times.new levels.now marks.now numbers.new)
+        ≡ with_edits (engine_of (before times.old levels.now marks.now numbers.old)) (removed (engine_of (before times.old levels.now marks.now numbers.old)).edit_map event.id) }
+    ensures answer { result ≡ edited_if (found_edit (engine_of (before times.old levels.now marks.now numbers.old)).edit_map event.id) event }
 {
     let id = event.id;
     let found = find_edit(times, levels, marks, numbers, id);

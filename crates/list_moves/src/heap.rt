@@ -25,11 +25,11 @@ pub(crate) fn rise(
     event: Event,
 ) -> usize
     requires { from < 256 }
-    ensures engine { engine_of (after times levels marks numbers)
-        ≡ with_ready (engine_of (before times levels marks numbers))
-        (Sift.rise earlier blank from (engine_of (before times levels marks numbers)).ready from event)
-        (engine_of (before times levels marks numbers)).ready_len }
-    ensures passed { result ≡ Rises.levels earlier blank from (engine_of (before times levels marks numbers)).ready from event }
+    ensures engine { engine_of (after times.new levels.new marks.new numbers.new)
+        ≡ with_ready (engine_of (before times.old levels.old marks.old numbers.old))
+        (Sift.rise earlier blank from (engine_of (before times.old levels.old marks.old numbers.old)).ready from event)
+        (engine_of (before times.old levels.old marks.old numbers.old)).ready_len }
+    ensures passed { result ≡ Rises.levels earlier blank from (engine_of (before times.old levels.old marks.old numbers.old)).ready from event }
 {
     sized(times, levels, marks, numbers);
     let mut passed: usize = 0;
@@ -56,8 +56,8 @@ pub(crate) fn wait(
     numbers: &mut Numbers,
     event: Event,
 ) -> usize
-    ensures engine { engine_of (after times levels marks numbers) ≡ pushed_ready (engine_of (before times levels marks numbers)) event }
-    ensures rise { result ≡ rise_ready (engine_of (before times levels marks numbers)) event }
+    ensures engine { engine_of (after times.new levels.new marks.new numbers.new) ≡ pushed_ready (engine_of (before times.old levels.old marks.old numbers.old)) event }
+    ensures rise { result ≡ rise_ready (engine_of (before times.old levels.old marks.old numbers.old)) event }
 {
     let n = numbers[WAITING] as usize;
     if n < ROOM {
@@ -78,8 +78,8 @@ pub fn push_event(
     numbers: &mut Numbers,
     event: Event,
 ) -> usize
-    ensures engine { engine_of (after times levels marks numbers) ≡ pushed_event (engine_of (before times levels marks numbers)) event }
-    ensures rise { result ≡ rise_of (engine_of (before times levels marks numbers)) event }
+    ensures engine { engine_of (after times.new levels.new marks.new numbers.new) ≡ pushed_event (engine_of (before times.old levels.old marks.old numbers.old)) event }
+    ensures rise { result ≡ rise_of (engine_of (before times.old levels.old marks.old numbers.old)) event }
 {
     if event.start_time < times[THRESHOLD] {
         append(times, levels, marks, numbers, event);
@@ -98,7 +98,7 @@ fn child(
     m: usize,
 ) -> usize
     requires { (2 * i + 1 < m) × (m < 256) }
-    ensures { (Sift.child earlier blank (engine_of (before times levels marks numbers)).ready m i ≡ result) × (i < result) × (result < m) }
+    ensures { (Sift.child earlier blank (engine_of (before times.now levels.now marks.now numbers.now)).ready m i ≡ result) × (i < result) × (result < m) }
 {
     if m <= 2 * i + 2 {
         return 2 * i + 1;
@@ -113,7 +113,7 @@ fn child(
 
 // The first leaves: its place is filled from below, and from where that ends the last goes up, past every one that it precedes.
 pub(crate) fn pop(times: &mut Times, levels: &mut Levels, marks: &mut Marks, numbers: &mut Numbers)
-    ensures { engine_of (after times levels marks numbers) ≡ popped_ready (engine_of (before times levels marks numbers)) }
+    ensures { engine_of (after times.new levels.new marks.new numbers.new) ≡ popped_ready (engine_of (before times.old levels.old marks.old numbers.old)) }
 {
     let n = numbers[WAITING] as usize;
     if n == 0 {

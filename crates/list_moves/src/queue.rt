@@ -23,7 +23,7 @@ fn held_event(
     past: usize,
 ) -> Event
     requires { (past ≤ 256) × (k < past + 256) }
-    ensures { result ≡ held_at past (engine_of (before times levels marks numbers)) k }
+    ensures { result ≡ held_at past (engine_of (before times.now levels.now marks.now numbers.now)) k }
 {
     if k < past {
         return event_at(times, levels, marks, numbers, PAST + k);
@@ -33,9 +33,9 @@ fn held_event(
 
 // No event is finished, and none sounds.
 fn clear_lists(times: &Times, levels: &Levels, marks: &Marks, numbers: &mut Numbers)
-    ensures { engine_of (after times levels marks numbers)
-        ≡ with_active (with_past (engine_of (before times levels marks numbers)) (engine_of (before times levels marks numbers)).past 0)
-        (engine_of (before times levels marks numbers)).active (engine_of (before times levels marks numbers)).active_map 0 }
+    ensures { engine_of (after times.now levels.now marks.now numbers.new)
+        ≡ with_active (with_past (engine_of (before times.now levels.now marks.now numbers.old)) (engine_of (before times.now levels.now marks.now numbers.old)).past 0)
+        (engine_of (before times.now levels.now marks.now numbers.old)).active (engine_of (before times.now levels.now marks.now numbers.old)).active_map 0 }
 {
     sized(times, levels, marks, numbers);
     numbers[FINISHED] = 0;
@@ -49,7 +49,7 @@ pub fn all_to_ready(
     marks: &mut Marks,
     numbers: &mut Numbers,
 )
-    ensures { engine_of (after times levels marks numbers) ≡ all_to_ready (engine_of (before times levels marks numbers)) }
+    ensures { engine_of (after times.new levels.new marks.new numbers.new) ≡ all_to_ready (engine_of (before times.old levels.old marks.old numbers.old)) }
 {
     let past = least(numbers[FINISHED] as usize, ROOM);
     let n = past + least(numbers[SOUNDING] as usize, ROOM);
@@ -64,7 +64,7 @@ pub fn all_to_ready(
 
 // Puts every waiting event's source back to its beginning.
 pub fn rewind_ready(times: &Times, levels: &mut Levels, marks: &mut Marks, numbers: &Numbers)
-    ensures { engine_of (after times levels marks numbers) ≡ rewound_ready (engine_of (before times levels marks numbers)) }
+    ensures { engine_of (after times.now levels.new marks.new numbers.now) ≡ rewound_ready (engine_of (before times.now levels.old marks.old numbers.now)) }
 {
     sized(times, levels, marks, numbers);
     let n = least(numbers[WAITING] as usize, ROOM);

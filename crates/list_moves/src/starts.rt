@@ -15,8 +15,8 @@ use memory::{
 
 // The heap's first becomes active, with its edit.
 fn start_first(times: &mut Times, levels: &mut Levels, marks: &mut Marks, numbers: &mut Numbers)
-    ensures { engine_of (after times levels marks numbers)
-        ≡ activated (engine_of (before times levels marks numbers)) (slice_index_or (engine_of (before times levels marks numbers)).ready 0 blank) }
+    ensures { engine_of (after times.new levels.new marks.new numbers.new)
+        ≡ activated (engine_of (before times.old levels.old marks.old numbers.old)) (slice_index_or (engine_of (before times.old levels.old marks.old numbers.old)).ready 0 blank) }
 {
     let first = event_at(times, levels, marks, numbers, READY);
     let event = take_edit(times, levels, marks, numbers, first);
@@ -26,7 +26,7 @@ fn start_first(times: &mut Times, levels: &mut Levels, marks: &mut Marks, number
 
 // Starts those that start before the threshold, first first.
 fn start_due(times: &mut Times, levels: &mut Levels, marks: &mut Marks, numbers: &mut Numbers)
-    ensures { engine_of (after times levels marks numbers) ≡ ready_to_active (engine_of (before times levels marks numbers)) }
+    ensures { engine_of (after times.new levels.new marks.new numbers.new) ≡ ready_to_active (engine_of (before times.old levels.old marks.old numbers.old)) }
 {
     let mut n = numbers[WAITING] as usize;
     if ROOM < n {
@@ -49,9 +49,9 @@ pub fn ready_to_active(
     numbers: &mut Numbers,
     next_end_time: f64,
 )
-    ensures { engine_of (after times levels marks numbers)
-        ≡ ready_to_active (with_times (engine_of (before times levels marks numbers)) (engine_of (before times levels marks numbers)).time
-        (next_end_time -ᵈ (engine_of (before times levels marks numbers)).sample_duration ×ᵈ halfᶠ)) }
+    ensures { engine_of (after times.new levels.new marks.new numbers.new)
+        ≡ ready_to_active (with_times (engine_of (before times.old levels.old marks.old numbers.old)) (engine_of (before times.old levels.old marks.old numbers.old)).time
+        (next_end_time -ᵈ (engine_of (before times.old levels.old marks.old numbers.old)).sample_duration ×ᵈ halfᶠ)) }
 {
     sized(times, levels, marks, numbers);
     let duration = times[DURATION];

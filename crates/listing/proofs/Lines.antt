@@ -44,6 +44,7 @@ first-digit l at b w n = record { acc = []; is = refl; all = append-nil (digits 
 pub next-digit : {l : List ℕ} {at b : ℕ} {whole now : List ℕ} {rest : ℕ} (left : ℕ) → 0 < left → Backward l at b whole now left rest
     → (d : ℕ) → d ≡ digit (rest % b) → Backward l at b whole (set now (at + (left - 1)) d) (left - 1) (rest / b)
 unfolding digits
+next-digit {l} {at} {b} {whole} {now} {rest} zero h p d e = absurd (omega arith)
 next-digit {l} {at} {b} {whole} {now} {rest} (suc k) h p d e =
     let z : k ≡ suc k - 1 = omega arith in
     subst (λ (j : ℕ). Backward l at b whole (set now (at + j) d) j (rest / b)) z (record {

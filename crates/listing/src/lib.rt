@@ -8,12 +8,12 @@ ghost use Rattle.std.specs.Float.{binary32};
 ghost use Rattle.std.specs.Float.Ieee.{to_bits};
 ghost use Rattle.std.proofs.lemmas.List.Edits.{sets};
 ghost use Rattle.listing.specs.Putting.{put, put_length};
-ghost use Rattle.listing.specs.Text.{digits, digit as digitOf, places_of, decimal, spaced, kind_line, counts_line, samples_from, samples_line};
+ghost use Rattle.listing.specs.Text.{digits, digit as digit_of, places_of, decimal, spaced, kind_line, counts_line, samples_from, samples_line};
 
 // A digit below 16, upper-case.
 fn digit(d: u64) -> u8
     requires { d < 16 }
-    ensures { result ≡ digitOf d }
+    ensures { result ≡ digit_of d }
 {
     if d < 10 { 48 + d as u8 } else { 55 + d as u8 }
 }

@@ -45,6 +45,6 @@ put_there piece out out' at at' e room =
     (ap (λ t. t.out) p, ap (λ t. t.at) p)
 
 -- ---- computed: 1 is 3F800000, and a NaN's bits
-pub two_samples : bytes_of (fin false 1 (pos 0) ∷ nan ∷ []) ≡ 0 ∷ 0 ∷ 0x80 ∷ 0x3_f ∷ 0 ∷ 0 ∷ 0x_c0 ∷ 0x7_f ∷ []
+pub two_samples : bytes_of (fin false 1 (pos 0) ∷ nan ∷ []) ≡ 0 ∷ 0 ∷ 0x80 ∷ 0x3F ∷ 0 ∷ 0 ∷ 0xC0 ∷ 0x7F ∷ []
 unfolding bytes_of
 two_samples = refl

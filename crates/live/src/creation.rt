@@ -2,7 +2,7 @@
 ghost use Rattle.std.specs.Prelude.{◌≡◌, replicate};
 ghost use Rattle.floats.specs.Arithmetic.{zeroᶠ};
 ghost use Rattle.sequencer.specs.Creation.{fresh_engine, refuses_creation, created};
-ghost use Rattle.memory.specs.Memory.{before, after, engine_of, mode_if};
+ghost use Rattle.memory.specs.Memory.{after, engine_of, mode_if};
 ghost use Rattle.live.specs.CallContracts.{mode_number};
 
 use event::ReplayMode;
@@ -53,7 +53,7 @@ fn fresh(
     mode: ReplayMode,
     first: u64,
 )
-    ensures { engine_of (after times levels marks numbers) ≡ fresh_engine outputs mode first }
+    ensures { engine_of (after times.new levels.new marks.new numbers.new) ≡ fresh_engine outputs mode first }
 {
     clear_times(times);
     clear_levels(levels);
@@ -89,7 +89,7 @@ pub fn create(
     mode: ReplayMode,
     first: u64,
 ) -> Answer
-    ensures engine { engine_of (after times levels marks numbers) ≡ (created outputs mode first).sequencer }
+    ensures engine { engine_of (after times.new levels.new marks.new numbers.new) ≡ (created outputs mode first).sequencer }
     ensures answer { result ≡ (created outputs mode first).answer }
 {
     if refuses_creation(outputs, first) {

@@ -32,10 +32,10 @@ fn amend(
     end: f64,
     edit: Edit,
 ) -> Answer
-    ensures engine { engine_of (after times levels marks numbers)
-        ≡ (Edits.amended (engine_of (before times levels marks numbers)) id end edit.end_time edit.fade_out).sequencer }
-    ensures answer { result ≡ (Edits.amended (engine_of (before times levels marks numbers)) id end edit.end_time edit.fade_out).answer }
-    ensures refused { Refuses result → after times levels marks numbers ≡ before times levels marks numbers }
+    ensures engine { engine_of (after times.new levels.now marks.now numbers.new)
+        ≡ (Edits.amended (engine_of (before times.old levels.now marks.now numbers.old)) id end edit.end_time edit.fade_out).sequencer }
+    ensures answer { result ≡ (Edits.amended (engine_of (before times.old levels.now marks.now numbers.old)) id end edit.end_time edit.fade_out).answer }
+    ensures refused { Refuses result → after times.new levels.now marks.now numbers.new ≡ before times.old levels.now marks.now numbers.old }
 {
     sized(times, levels, marks, numbers);
     let refusal = edit_limits(end, edit.fade_out);
@@ -70,10 +70,10 @@ pub fn edit(
     end_time: f64,
     fade_out: f64,
 ) -> Answer
-    ensures engine { engine_of (after times levels marks numbers)
-        ≡ (Edits.edits absolute_end (engine_of (before times levels marks numbers)) id end_time fade_out).sequencer }
-    ensures answer { result ≡ (Edits.edits absolute_end (engine_of (before times levels marks numbers)) id end_time fade_out).answer }
-    ensures refused { Refuses result → after times levels marks numbers ≡ before times levels marks numbers }
+    ensures engine { engine_of (after times.new levels.now marks.now numbers.new)
+        ≡ (Edits.edits absolute_end (engine_of (before times.old levels.now marks.now numbers.old)) id end_time fade_out).sequencer }
+    ensures answer { result ≡ (Edits.edits absolute_end (engine_of (before times.old levels.now marks.now numbers.old)) id end_time fade_out).answer }
+    ensures refused { Refuses result → after times.new levels.now marks.now numbers.new ≡ before times.old levels.now marks.now numbers.old }
 {
     let edit = Edit { end_time, fade_out };
     amend(times, levels, marks, numbers, id, end_time, edit)
@@ -89,10 +89,10 @@ pub fn edit_relative(
     end_time: f64,
     fade_out: f64,
 ) -> Answer
-    ensures engine { engine_of (after times levels marks numbers)
-        ≡ (Edits.edits relative_end (engine_of (before times levels marks numbers)) id end_time fade_out).sequencer }
-    ensures answer { result ≡ (Edits.edits relative_end (engine_of (before times levels marks numbers)) id end_time fade_out).answer }
-    ensures refused { Refuses result → after times levels marks numbers ≡ before times levels marks numbers }
+    ensures engine { engine_of (after times.new levels.now marks.now numbers.new)
+        ≡ (Edits.edits relative_end (engine_of (before times.old levels.now marks.now numbers.old)) id end_time fade_out).sequencer }
+    ensures answer { result ≡ (Edits.edits relative_end (engine_of (before times.old levels.now marks.now numbers.old)) id end_time fade_out).answer }
+    ensures refused { Refuses result → after times.new levels.now marks.now numbers.new ≡ before times.old levels.now marks.now numbers.old }
 {
     let until = times[CLOCK] + end_time;
     let edit = Edit {

@@ -93,16 +93,16 @@ fn push_to(
     stated: Stated,
     voice: Voice,
 ) -> Pushed
-    ensures engine { engine_of (after times levels marks numbers)
-        ≡ (pushes_to (engine_of (before times levels marks numbers)) stated.start stated.end stated.lasts stated.from stated.until
+    ensures engine { engine_of (after times.new levels.new marks.new numbers.new)
+        ≡ (pushes_to (engine_of (before times.old levels.old marks.old numbers.old)) stated.start stated.end stated.lasts stated.from stated.until
         voice.fade_ease voice.fade_in voice.fade_out voice.source voice.gain).sequencer }
     ensures answer { result.answer
-        ≡ (pushes_to (engine_of (before times levels marks numbers)) stated.start stated.end stated.lasts stated.from stated.until
+        ≡ (pushes_to (engine_of (before times.old levels.old marks.old numbers.old)) stated.start stated.end stated.lasts stated.from stated.until
         voice.fade_ease voice.fade_in voice.fade_out voice.source voice.gain).answer }
     ensures rise { result.rise
-        ≡ rise_to (engine_of (before times levels marks numbers)) stated.start stated.end stated.lasts stated.from stated.until
+        ≡ rise_to (engine_of (before times.old levels.old marks.old numbers.old)) stated.start stated.end stated.lasts stated.from stated.until
         voice.fade_ease voice.fade_in voice.fade_out voice.source voice.gain }
-    ensures refused { Refuses result.answer → after times levels marks numbers ≡ before times levels marks numbers }
+    ensures refused { Refuses result.answer → after times.new levels.new marks.new numbers.new ≡ before times.old levels.old marks.old numbers.old }
 {
     let refusal = refusal_of(numbers, stated, voice);
     if refusal != 0 {
@@ -137,13 +137,13 @@ pub fn push(
     source: Source,
     gain: f32,
 ) -> Pushed
-    ensures engine { engine_of (after times levels marks numbers) ≡ (pushes_told absolute (engine_of (before times levels marks numbers))
+    ensures engine { engine_of (after times.new levels.new marks.new numbers.new) ≡ (pushes_told absolute (engine_of (before times.old levels.old marks.old numbers.old))
         start_time end_time fade_ease fade_in fade_out source gain).sequencer }
-    ensures answer { result.answer ≡ (pushes_told absolute (engine_of (before times levels marks numbers))
+    ensures answer { result.answer ≡ (pushes_told absolute (engine_of (before times.old levels.old marks.old numbers.old))
         start_time end_time fade_ease fade_in fade_out source gain).answer }
-    ensures rise { result.rise ≡ (pushes_told absolute (engine_of (before times levels marks numbers))
+    ensures rise { result.rise ≡ (pushes_told absolute (engine_of (before times.old levels.old marks.old numbers.old))
         start_time end_time fade_ease fade_in fade_out source gain).rise }
-    ensures refused { Refuses result.answer → after times levels marks numbers ≡ before times levels marks numbers }
+    ensures refused { Refuses result.answer → after times.new levels.new marks.new numbers.new ≡ before times.old levels.old marks.old numbers.old }
 {
     let stated = Stated {
         start: start_time,
@@ -176,13 +176,13 @@ pub fn push_relative(
     source: Source,
     gain: f32,
 ) -> Pushed
-    ensures engine { engine_of (after times levels marks numbers) ≡ (pushes_told relative (engine_of (before times levels marks numbers))
+    ensures engine { engine_of (after times.new levels.new marks.new numbers.new) ≡ (pushes_told relative (engine_of (before times.old levels.old marks.old numbers.old))
         start_time end_time fade_ease fade_in fade_out source gain).sequencer }
-    ensures answer { result.answer ≡ (pushes_told relative (engine_of (before times levels marks numbers))
+    ensures answer { result.answer ≡ (pushes_told relative (engine_of (before times.old levels.old marks.old numbers.old))
         start_time end_time fade_ease fade_in fade_out source gain).answer }
-    ensures rise { result.rise ≡ (pushes_told relative (engine_of (before times levels marks numbers))
+    ensures rise { result.rise ≡ (pushes_told relative (engine_of (before times.old levels.old marks.old numbers.old))
         start_time end_time fade_ease fade_in fade_out source gain).rise }
-    ensures refused { Refuses result.answer → after times levels marks numbers ≡ before times levels marks numbers }
+    ensures refused { Refuses result.answer → after times.new levels.new marks.new numbers.new ≡ before times.old levels.old marks.old numbers.old }
 {
     let clock = times[CLOCK];
     let stated = Stated {
@@ -216,13 +216,13 @@ pub fn push_duration(
     source: Source,
     gain: f32,
 ) -> Pushed
-    ensures engine { engine_of (after times levels marks numbers) ≡ (pushes_told by_duration (engine_of (before times levels marks numbers))
+    ensures engine { engine_of (after times.new levels.new marks.new numbers.new) ≡ (pushes_told by_duration (engine_of (before times.old levels.old marks.old numbers.old))
         start_time duration fade_ease fade_in fade_out source gain).sequencer }
-    ensures answer { result.answer ≡ (pushes_told by_duration (engine_of (before times levels marks numbers))
+    ensures answer { result.answer ≡ (pushes_told by_duration (engine_of (before times.old levels.old marks.old numbers.old))
         start_time duration fade_ease fade_in fade_out source gain).answer }
-    ensures rise { result.rise ≡ (pushes_told by_duration (engine_of (before times levels marks numbers))
+    ensures rise { result.rise ≡ (pushes_told by_duration (engine_of (before times.old levels.old marks.old numbers.old))
         start_time duration fade_ease fade_in fade_out source gain).rise }
-    ensures refused { Refuses result.answer → after times levels marks numbers ≡ before times levels marks numbers }
+    ensures refused { Refuses result.answer → after times.new levels.new marks.new numbers.new ≡ before times.old levels.old marks.old numbers.old }
 {
     let until = start_time + duration;
     let stated = Stated {

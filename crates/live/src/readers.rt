@@ -8,14 +8,14 @@ use sequencer::Counts;
 
 // The clock in seconds.
 pub fn time(times: &Times, levels: &Levels, marks: &Marks, numbers: &Numbers) -> f64
-    ensures { result ≡ (engine_of (before times levels marks numbers)).time }
+    ensures { result ≡ (engine_of (before times.now levels.now marks.now numbers.now)).time }
 {
     times[CLOCK]
 }
 
 // How many events wait, sound, are finished, and were let go.
 pub fn counts(times: &Times, levels: &Levels, marks: &Marks, numbers: &Numbers) -> Counts
-    ensures { result ≡ counts_of (engine_of (before times levels marks numbers)) }
+    ensures { result ≡ counts_of (engine_of (before times.now levels.now marks.now numbers.now)) }
 {
     Counts {
         waiting: numbers[WAITING] as usize,

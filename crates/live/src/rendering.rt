@@ -28,7 +28,7 @@ fn advance(
     numbers: &mut Numbers,
     end: f64,
 )
-    ensures { engine_of (after times levels marks numbers) ≡ advanced (engine_of (before times levels marks numbers)) end }
+    ensures { engine_of (after times.new levels.new marks.new numbers.new) ≡ advanced (engine_of (before times.old levels.old marks.old numbers.old)) end }
 {
     let limit = times[CLOCK] + 0.5 * times[DURATION];
     release_past(times, levels, marks, numbers);
@@ -59,9 +59,9 @@ fn mix_tick(
     time: f64,
     pool: &[f32],
 ) -> f32
-    ensures engine { engine_of (after times levels marks numbers) ≡ with_sounding (engine_of (before times levels marks numbers))
-        (tick_pass order pool.now time (engine_of (before times levels marks numbers))).items }
-    ensures sample { result ≡ (tick_pass order pool.now time (engine_of (before times levels marks numbers))).sum }
+    ensures engine { engine_of (after times.now levels.new marks.new numbers.now) ≡ with_sounding (engine_of (before times.now levels.old marks.old numbers.now))
+        (tick_pass order pool.now time (engine_of (before times.now levels.old marks.old numbers.now))).items }
+    ensures sample { result ≡ (tick_pass order pool.now time (engine_of (before times.now levels.old marks.old numbers.now))).sum }
 {
     sized(times, levels, marks, numbers);
     let m = least(numbers[SOUNDING] as usize, ROOM);
@@ -90,11 +90,11 @@ fn mix_block(
     pool: &[f32],
     mix: &mut [f32],
 ) -> Placings
-    ensures engine { engine_of (after times levels marks numbers) ≡ with_sounding (engine_of (before times levels marks numbers))
-        (block_mixed order pool.now (as_span span) mix.old (engine_of (before times levels marks numbers))).items }
+    ensures engine { engine_of (after times.now levels.new marks.new numbers.now) ≡ with_sounding (engine_of (before times.now levels.old marks.old numbers.now))
+        (block_mixed order pool.now (as_span span) mix.old (engine_of (before times.now levels.old marks.old numbers.now))).items }
     ensures samples { mix.new
-        ≡ (block_mixed order pool.now (as_span span) mix.old (engine_of (before times levels marks numbers))).sum }
-    ensures places { result ≡ (places_pass order (as_span span) (engine_of (before times levels marks numbers))).sum }
+        ≡ (block_mixed order pool.now (as_span span) mix.old (engine_of (before times.now levels.old marks.old numbers.now))).sum }
+    ensures places { result ≡ (places_pass order (as_span span) (engine_of (before times.now levels.old marks.old numbers.now))).sum }
 {
     sized(times, levels, marks, numbers);
     let m = least(numbers[SOUNDING] as usize, ROOM);
@@ -123,12 +123,12 @@ fn mix_channels(
     mix: &mut [f32],
     out: &mut [f32],
 ) -> Placings
-    ensures engine { engine_of (after times levels marks numbers) ≡ with_sounding (engine_of (before times levels marks numbers))
-        (block_mixed order pool.now (as_span span) mix.old (engine_of (before times levels marks numbers))).items }
+    ensures engine { engine_of (after times.now levels.new marks.new numbers.now) ≡ with_sounding (engine_of (before times.now levels.old marks.old numbers.now))
+        (block_mixed order pool.now (as_span span) mix.old (engine_of (before times.now levels.old marks.old numbers.now))).items }
     ensures samples { out.new ≡ overlay (length out.old / 64)
-        (take 64 (block_mixed order pool.now (as_span span) mix.old (engine_of (before times levels marks numbers))).sum)
+        (take 64 (block_mixed order pool.now (as_span span) mix.old (engine_of (before times.now levels.old marks.old numbers.now))).sum)
         out.old }
-    ensures places { result ≡ (places_pass order (as_span span) (engine_of (before times levels marks numbers))).sum }
+    ensures places { result ≡ (places_pass order (as_span span) (engine_of (before times.now levels.old marks.old numbers.now))).sum }
 {
     let places = mix_block(times, levels, marks, numbers, order, span, pool, mix);
     runs::overlay_channels(out, mix);
@@ -146,11 +146,11 @@ pub fn tick(
     pool: &[f32],
     out: &mut [f32],
 ) -> Answer
-    ensures engine { engine_of (after times levels marks numbers)
-        ≡ (ticks order pool.now (length out.old) (engine_of (before times levels marks numbers))).sequencer }
-    ensures samples { out.new ≡ tick_outs order pool.now (engine_of (before times levels marks numbers)) out.old }
-    ensures answer { result ≡ (ticks order pool.now (length out.old) (engine_of (before times levels marks numbers))).answer }
-    ensures refused { Refuses result → after times levels marks numbers ≡ before times levels marks numbers }
+    ensures engine { engine_of (after times.new levels.new marks.new numbers.new)
+        ≡ (ticks order pool.now (length out.old) (engine_of (before times.old levels.old marks.old numbers.old))).sequencer }
+    ensures samples { out.new ≡ tick_outs order pool.now (engine_of (before times.old levels.old marks.old numbers.old)) out.old }
+    ensures answer { result ≡ (ticks order pool.now (length out.old) (engine_of (before times.old levels.old marks.old numbers.old))).answer }
+    ensures refused { Refuses result → after times.new levels.new marks.new numbers.new ≡ before times.old levels.old marks.old numbers.old }
 {
     let time = times[CLOCK];
     let duration = times[DURATION];
@@ -192,11 +192,11 @@ pub fn process(
     pool: &[f32],
     out: &mut [f32],
 ) -> Answer
-    ensures engine { engine_of (after times levels marks numbers)
-        ≡ (blocks order pool.now size (length out.old) (engine_of (before times levels marks numbers))).sequencer }
-    ensures samples { out.new ≡ block_outs order pool.now size (engine_of (before times levels marks numbers)) out.old }
-    ensures answer { result ≡ (blocks order pool.now size (length out.old) (engine_of (before times levels marks numbers))).answer }
-    ensures refused { Refuses result → after times levels marks numbers ≡ before times levels marks numbers }
+    ensures engine { engine_of (after times.new levels.new marks.new numbers.new)
+        ≡ (blocks order pool.now size (length out.old) (engine_of (before times.old levels.old marks.old numbers.old))).sequencer }
+    ensures samples { out.new ≡ block_outs order pool.now size (engine_of (before times.old levels.old marks.old numbers.old)) out.old }
+    ensures answer { result ≡ (blocks order pool.now size (length out.old) (engine_of (before times.old levels.old marks.old numbers.old))).answer }
+    ensures refused { Refuses result → after times.new levels.new marks.new numbers.new ≡ before times.old levels.old marks.old numbers.old }
 {
     let span = span_of(times, size);
     let channels = numbers[CHANNELS] as usize;

@@ -16,8 +16,8 @@ use sequencer::Answer;
 
 // Every event is let go, and no edit remains.
 fn let_all_go(times: &Times, levels: &Levels, marks: &Marks, numbers: &mut Numbers)
-    ensures { engine_of (after times levels marks numbers)
-        ≡ emptied_lists (engine_of (before times levels marks numbers)) (gone_all (engine_of (before times levels marks numbers))) }
+    ensures { engine_of (after times.now levels.now marks.now numbers.new)
+        ≡ emptied_lists (engine_of (before times.now levels.now marks.now numbers.old)) (gone_all (engine_of (before times.now levels.now marks.now numbers.old))) }
 {
     sized(times, levels, marks, numbers);
     let past = least(numbers[FINISHED] as usize, ROOM);
@@ -42,7 +42,7 @@ fn start_over(times: &mut Times)
 
 // All: everything waits again, from its beginning, and stored edits remain. None: everything is let go, and no edit remains.
 pub fn reset(times: &mut Times, levels: &mut Levels, marks: &mut Marks, numbers: &mut Numbers)
-    ensures { engine_of (after times levels marks numbers) ≡ resets (engine_of (before times levels marks numbers)) }
+    ensures { engine_of (after times.new levels.new marks.new numbers.new) ≡ resets (engine_of (before times.old levels.old marks.old numbers.old)) }
 {
     if numbers[MODE] == 0 {
         all_to_ready(times, levels, marks, numbers);
@@ -64,9 +64,9 @@ pub fn set_sample_rate(
     numbers: &mut Numbers,
     rate: f64,
 ) -> Answer
-    ensures engine { engine_of (after times levels marks numbers) ≡ (rates (engine_of (before times levels marks numbers)) rate).sequencer }
-    ensures answer { result ≡ (rates (engine_of (before times levels marks numbers)) rate).answer }
-    ensures refused { Refuses result → after times levels marks numbers ≡ before times levels marks numbers }
+    ensures engine { engine_of (after times.new levels.new marks.new numbers.new) ≡ (rates (engine_of (before times.old levels.old marks.old numbers.old)) rate).sequencer }
+    ensures answer { result ≡ (rates (engine_of (before times.old levels.old marks.old numbers.old)) rate).answer }
+    ensures refused { Refuses result → after times.new levels.new marks.new numbers.new ≡ before times.old levels.old marks.old numbers.old }
 {
     let refusal = rate_refusal(rate);
     if refusal != 0 {

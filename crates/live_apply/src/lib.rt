@@ -77,10 +77,10 @@ fn tick(
     pool: &[f32],
     samples: &mut [f32],
 ) -> Left
-    ensures engine { engine_of (after times levels marks numbers)
-        ≡ (ticking pool.now (engine_of (before times levels marks numbers)) samples.old).sequencer }
-    ensures answer { result ≡ left_of kind (ticking pool.now (engine_of (before times levels marks numbers)) samples.old) }
-    ensures samples { samples.new ≡ ticking_out pool.now (engine_of (before times levels marks numbers)) samples.old }
+    ensures engine { engine_of (after times.new levels.new marks.new numbers.new)
+        ≡ (ticking pool.now (engine_of (before times.old levels.old marks.old numbers.old)) samples.old).sequencer }
+    ensures answer { result ≡ left_of kind (ticking pool.now (engine_of (before times.old levels.old marks.old numbers.old)) samples.old) }
+    ensures samples { samples.new ≡ ticking_out pool.now (engine_of (before times.old levels.old marks.old numbers.old)) samples.old }
 {
     let channels = least(numbers[CHANNELS] as usize, 8);
     let n = least(channels, samples.len());
@@ -108,11 +108,11 @@ fn process(
     pool: &[f32],
     samples: &mut [f32],
 ) -> Left
-    ensures engine { engine_of (after times levels marks numbers)
-        ≡ (processing pool.now size (engine_of (before times levels marks numbers)) samples.old).sequencer }
-    ensures answer { result ≡ left_of kind (processing pool.now size (engine_of (before times levels marks numbers)) samples.old) }
+    ensures engine { engine_of (after times.new levels.new marks.new numbers.new)
+        ≡ (processing pool.now size (engine_of (before times.old levels.old marks.old numbers.old)) samples.old).sequencer }
+    ensures answer { result ≡ left_of kind (processing pool.now size (engine_of (before times.old levels.old marks.old numbers.old)) samples.old) }
     ensures samples { samples.new
-        ≡ processing_out pool.now size (engine_of (before times levels marks numbers)) samples.old }
+        ≡ processing_out pool.now size (engine_of (before times.old levels.old marks.old numbers.old)) samples.old }
 {
     let channels = least(numbers[CHANNELS] as usize, 8);
     let n = least(64 * channels, samples.len());
@@ -139,8 +139,8 @@ pub fn push(
     numbers: &mut Numbers,
     p: PushRecord,
 ) -> Answer
-    ensures engine { engine_of (after times levels marks numbers) ≡ (pushed absolute (engine_of (before times levels marks numbers)) p).sequencer }
-    ensures answer { result ≡ (pushed absolute (engine_of (before times levels marks numbers)) p).answer }
+    ensures engine { engine_of (after times.new levels.new marks.new numbers.new) ≡ (pushed absolute (engine_of (before times.old levels.old marks.old numbers.old)) p).sequencer }
+    ensures answer { result ≡ (pushed absolute (engine_of (before times.old levels.old marks.old numbers.old)) p).answer }
 {
     let ease = p.fade_ease;
     let source = p.source;
@@ -168,8 +168,8 @@ pub fn push_relative(
     numbers: &mut Numbers,
     p: PushRecord,
 ) -> Answer
-    ensures engine { engine_of (after times levels marks numbers) ≡ (pushed relative (engine_of (before times levels marks numbers)) p).sequencer }
-    ensures answer { result ≡ (pushed relative (engine_of (before times levels marks numbers)) p).answer }
+    ensures engine { engine_of (after times.new levels.new marks.new numbers.new) ≡ (pushed relative (engine_of (before times.old levels.old marks.old numbers.old)) p).sequencer }
+    ensures answer { result ≡ (pushed relative (engine_of (before times.old levels.old marks.old numbers.old)) p).answer }
 {
     let ease = p.fade_ease;
     let source = p.source;
@@ -197,8 +197,8 @@ pub fn push_duration(
     numbers: &mut Numbers,
     p: PushRecord,
 ) -> Answer
-    ensures engine { engine_of (after times levels marks numbers) ≡ (pushed by_duration (engine_of (before times levels marks numbers)) p).sequencer }
-    ensures answer { result ≡ (pushed by_duration (engine_of (before times levels marks numbers)) p).answer }
+    ensures engine { engine_of (after times.new levels.new marks.new numbers.new) ≡ (pushed by_duration (engine_of (before times.old levels.old marks.old numbers.old)) p).sequencer }
+    ensures answer { result ≡ (pushed by_duration (engine_of (before times.old levels.old marks.old numbers.old)) p).answer }
 {
     let ease = p.fade_ease;
     let source = p.source;
@@ -226,9 +226,9 @@ pub fn edit(
     numbers: &mut Numbers,
     p: EditRecord,
 ) -> Answer
-    ensures engine { engine_of (after times levels marks numbers)
-        ≡ (edits absolute_end (engine_of (before times levels marks numbers)) p.id p.end_time p.fade_out).sequencer }
-    ensures answer { result ≡ (edits absolute_end (engine_of (before times levels marks numbers)) p.id p.end_time p.fade_out).answer }
+    ensures engine { engine_of (after times.new levels.now marks.now numbers.new)
+        ≡ (edits absolute_end (engine_of (before times.old levels.now marks.now numbers.old)) p.id p.end_time p.fade_out).sequencer }
+    ensures answer { result ≡ (edits absolute_end (engine_of (before times.old levels.now marks.now numbers.old)) p.id p.end_time p.fade_out).answer }
 {
     let id = p.id;
     live::edit(times, levels, marks, numbers, id, p.end_time, p.fade_out)
@@ -242,9 +242,9 @@ pub fn edit_relative(
     numbers: &mut Numbers,
     p: EditRecord,
 ) -> Answer
-    ensures engine { engine_of (after times levels marks numbers)
-        ≡ (edits relative_end (engine_of (before times levels marks numbers)) p.id p.end_time p.fade_out).sequencer }
-    ensures answer { result ≡ (edits relative_end (engine_of (before times levels marks numbers)) p.id p.end_time p.fade_out).answer }
+    ensures engine { engine_of (after times.new levels.now marks.now numbers.new)
+        ≡ (edits relative_end (engine_of (before times.old levels.now marks.now numbers.old)) p.id p.end_time p.fade_out).sequencer }
+    ensures answer { result ≡ (edits relative_end (engine_of (before times.old levels.now marks.now numbers.old)) p.id p.end_time p.fade_out).answer }
 {
     let id = p.id;
     live::edit_relative(times, levels, marks, numbers, id, p.end_time, p.fade_out)
@@ -261,10 +261,10 @@ pub fn carry_out(
     pool: &[f32],
     samples: &mut [f32],
 ) -> Left
-    ensures engine { engine_of (after times levels marks numbers)
-        ≡ (applied_to pool.now (engine_of (before times levels marks numbers)) call samples.old).sequencer }
-    ensures answer { result ≡ left_of kind (applied_to pool.now (engine_of (before times levels marks numbers)) call samples.old) }
-    ensures samples { samples.new ≡ applied_out pool.now (engine_of (before times levels marks numbers)) call samples.old }
+    ensures engine { engine_of (after times.new levels.new marks.new numbers.new)
+        ≡ (applied_to pool.now (engine_of (before times.old levels.old marks.old numbers.old)) call samples.old).sequencer }
+    ensures answer { result ≡ left_of kind (applied_to pool.now (engine_of (before times.old levels.old marks.old numbers.old)) call samples.old) }
+    ensures samples { samples.new ≡ applied_out pool.now (engine_of (before times.old levels.old marks.old numbers.old)) call samples.old }
 {
     match call {
         Call::Create {

@@ -27,15 +27,16 @@ pub record Cells : Type 0 where
 abbrev pub cells_of : List Float → List Float → List ℕ → List ℕ → Cells
 cells_of t l m n = record { times = t; levels = l; marks = m; numbers = n }
 
--- four lent arrays, at a call's entry and at its exit
+-- an array that is lent to be read, at a call's entry and at its exit
 abbrev pub Lent : Type 0 → Type 0
 Lent A = Both (Bor (List A)) (Bor (List A))
 
-abbrev pub before : (times levels : Lent Float) → (marks numbers : Lent ℕ) → Cells
-before t l m n = cells_of t.entry.now l.entry.now m.entry.now n.entry.now
+-- four lent arrays, at a call's entry (`x.old` of a `&mut`) and at its exit (`x.new`); of an array that is only read, `x.now`
+abbrev pub before : (times levels : List Float) → (marks numbers : List ℕ) → Cells
+before t l m n = cells_of t l m n
 
-abbrev pub after : (times levels : Lent Float) → (marks numbers : Lent ℕ) → Cells
-after t l m n = cells_of t.exit.now l.exit.now m.exit.now n.exit.now
+abbrev pub after : (times levels : List Float) → (marks numbers : List ℕ) → Cells
+after t l m n = cells_of t l m n
 
 -- ---- a slot
 

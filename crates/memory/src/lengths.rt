@@ -55,7 +55,7 @@ fn sized_numbers(l: &Numbers)
 
 // Tells a proof how long the four arrays are.
 pub fn sized(times: &Times, levels: &Levels, marks: &Marks, numbers: &Numbers)
-    ensures { Sized (before times levels marks numbers) }
+    ensures { Sized (before times.now levels.now marks.now numbers.now) }
 {
     sized_times(times);
     sized_levels(levels);

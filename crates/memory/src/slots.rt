@@ -45,7 +45,7 @@ pub fn event_at(
     numbers: &Numbers,
     slot: usize,
 ) -> Event
-    ensures { result ≡ event_at (before times levels marks numbers) (slot_of slot) }
+    ensures { result ≡ event_at (before times.now levels.now marks.now numbers.now) (slot_of slot) }
 {
     let k = slot_of(slot);
     let i = 4 * k;
@@ -166,7 +166,7 @@ fn store(
     e: Event,
 )
     requires { k < 768 }
-    ensures { after times levels marks numbers ≡ stored (before times levels marks numbers) k e }
+    ensures { after times.new levels.new marks.new numbers.new ≡ stored (before times.old levels.old marks.old numbers.old) k e }
 {
     let i = 4 * k;
     let ease = e.fade_ease;
@@ -189,7 +189,7 @@ pub fn put_event(
     slot: usize,
     event: Event,
 )
-    ensures { after times levels marks numbers ≡ stored_in (before times levels marks numbers) slot event }
+    ensures { after times.new levels.new marks.new numbers.new ≡ stored_in (before times.old levels.old marks.old numbers.old) slot event }
 {
     if slot < SLOTS {
         store(times, levels, marks, numbers, slot, event);
@@ -205,7 +205,7 @@ pub fn put_unit(
     slot: usize,
     unit: Unit,
 )
-    ensures { after times levels marks numbers ≡ unit_in (before times levels marks numbers) slot unit }
+    ensures { after times.now levels.new marks.new numbers.now ≡ unit_in (before times.now levels.old marks.old numbers.now) slot unit }
 {
     if slot < SLOTS {
         levels[4 * slot + 1] = unit.value;
@@ -224,7 +224,7 @@ fn copy(
     from: usize,
 )
     requires { (to < 768) × (from < 768) }
-    ensures { after times levels marks numbers ≡ copied (before times levels marks numbers) to from }
+    ensures { after times.new levels.new marks.new numbers.new ≡ copied (before times.old levels.old marks.old numbers.old) to from }
 {
     let i = 4 * to;
     let j = 4 * from;
@@ -255,7 +255,7 @@ pub fn copy_slot(
     to: usize,
     from: usize,
 )
-    ensures { after times levels marks numbers ≡ copied_in (before times levels marks numbers) to from }
+    ensures { after times.new levels.new marks.new numbers.new ≡ copied_in (before times.old levels.old marks.old numbers.old) to from }
 {
     if SLOTS <= to {
         return;

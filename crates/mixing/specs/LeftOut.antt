@@ -1,11 +1,11 @@
 -- A tick's fade that cannot act: of a fade-in whose end is after its start the phase is not below 1 from that end on, and of a fade-out whose beginning is before its end it is not above 0 up to that beginning.
--- For all floats (floats/specs/Phases.antt). Assumes nothing.
+-- For all floats (floats/proofs/Phases.antt). Assumes nothing.
 use Rattle.std.specs.Prelude.{◌≡◌, Bool, true, false, cond, ◌&&◌, T, refl, Float}
 use Rattle.std.proofs.Common.{ap, ◌∙◌}
 use Rattle.std.specs.Float.Ieee.Fits.{and_l, and_r}
 use Rattle.floats.specs.Arithmetic.{◌+ᵈ◌, ◌-ᵈ◌, ◌-ˢ◌, ◌×ˢ◌, ◌<ᶠ◌, ◌≤ᶠ◌, zeroᶠ, oneᶠ}
 use Rattle.floats.specs.Floats.{narrowed}
-use Rattle.floats.specs.Phases.{not-below-one, not-above_zero}
+use Rattle.floats.proofs.Phases.{not-below-one, not-above_zero}
 use Rattle.math.specs.Curves.{delerped}
 use Rattle.event.specs.declared.Event.{Event}
 use Rattle.event.specs.declared.Fade.{Fade}

@@ -406,7 +406,7 @@ fn count_fade_out(event: Event, span: Span, s: usize, places: Placings) -> Placi
 }
 
 // The event's places, each one more of `places`: where it begins and ends, and, where it sounds, those of its fades. They are the places that
-// `process_event` takes: `counted-as-taken` of ledger/specs/TakenPlacesProof.antt.
+// `process_event` takes: `counted-as-taken` of ledger/proofs/TakenPlacesProof.antt.
 pub fn count_places(event: Event, span: Span, places: Placings) -> Placings
     ensures { result ≡ add_all places (event_placings (as_span span) event) }
 {

@@ -19,8 +19,9 @@ use Rattle.sums.specs.Marked.{WithoutConsequence, without_consequence}
 use Rattle.desk.specs.Desk.{BackCall, tick, block, Call, back, back_call, Reply, Desk, opened, drained, acts, carried_out, desk_refusal, decide, step, run}
 use Rattle.desk.specs.Claim.{DeskEngine, calls, desk_after, DeskClaim}
 use Rattle.desk.specs.DeskMeets.{desk_itself}
-use Rattle.desk.specs.Lawful.{DeskLawful, drained_lawful, drained-kept, drained_free}
-use Rattle.desk.specs.LawfulCalls.{opened_lawful, run_lawful}
+use Rattle.desk.specs.Lawful.{DeskLawful}
+use Rattle.desk.proofs.Lawful.{drained_lawful, drained-kept, drained_free}
+use Rattle.desk.proofs.LawfulCalls.{opened_lawful, run_lawful}
 use Rattle.order_claim.specs.DeskOrder.{TickAllQualify, BlockAllQualify, SameDeskSamples}
 
 -- ---- the desk ledger

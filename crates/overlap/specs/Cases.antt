@@ -14,7 +14,7 @@ use Rattle.ledger.specs.Calls.{Call, edit, absolute_end}
 use Rattle.ledger.specs.Ledger.{Ledger}
 use Rattle.ledger.specs.Lists.{insert, insert_all, numbers}
 use Rattle.ledger.specs.Cases.{held1, one_tick}
-use Rattle.ledger.specs.CasesOfSlips.{ledger_of}
+use Rattle.ledger.proofs.CasesOfSlips.{ledger_of}
 use Rattle.sequencer.specs.declared.Sequencer.{Sequencer}
 use Rattle.sequencer.specs.Parts.{with_ready, with_active, with_past}
 use Rattle.sequencer.specs.Creation.{fresh_engine}

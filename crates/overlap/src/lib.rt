@@ -9,7 +9,7 @@ ghost use Rattle.event.specs.Events.{number_of};
 ghost use Rattle.ready.specs.Stands.{Stands};
 ghost use Rattle.overlap.specs.Stretch.{those, in_stretch, clips_of, written, clips_answer, clips_listed};
 ghost use Rattle.ledger.specs.Lists.{numbers as numbers_of};
-ghost use Rattle.memory.specs.Memory.{before, cells_of, engine_of};
+ghost use Rattle.memory.specs.Memory.{before, engine_of};
 ghost use Rattle.overlap.specs.Reading.{held_in, first_read};
 ghost use Rattle.ready.specs.Sift.{rise, child, sink};
 ghost use Rattle.overlap.specs.Keys.{key_of, key_less, no_key, pairs};
@@ -157,10 +157,10 @@ fn held_event(
     waiting: usize,
     sounding: usize,
 ) -> Event
-    requires fact_1 { waiting ≡ min (engine_of (cells_of times.now levels.now marks.now numbers.now)).ready_len 256 }
-    requires fact_2 { sounding ≡ waiting + min (engine_of (cells_of times.now levels.now marks.now numbers.now)).active_len 256 }
-    requires fact_3 { i < sounding + min (engine_of (cells_of times.now levels.now marks.now numbers.now)).past_len 256 }
-    ensures { result ≡ get_or (held_in (engine_of (before times levels marks numbers))) i blank }
+    requires fact_1 { waiting ≡ min (engine_of (before times.now levels.now marks.now numbers.now)).ready_len 256 }
+    requires fact_2 { sounding ≡ waiting + min (engine_of (before times.now levels.now marks.now numbers.now)).active_len 256 }
+    requires fact_3 { i < sounding + min (engine_of (before times.now levels.now marks.now numbers.now)).past_len 256 }
+    ensures { result ≡ get_or (held_in (engine_of (before times.now levels.now marks.now numbers.now))) i blank }
 {
     if i < waiting {
         return event_at(times, levels, marks, numbers, READY + i);
@@ -185,7 +185,7 @@ fn gather(
     requires fact_1 { length starts.old ≡ 768 }
     requires fact_2 { length ids.old ≡ 768 }
     ensures { Stands key_less no_key (pairs starts.new ids.new) result
-        (map key_of (those (in_stretch from to) (held_in (engine_of (before times levels marks numbers))))) }
+        (map key_of (those (in_stretch from to) (held_in (engine_of (before times.now levels.now marks.now numbers.now))))) }
 {
     let waiting = least(numbers[WAITING] as usize, ROOM);
     let sounding = waiting + least(numbers[SOUNDING] as usize, ROOM);
@@ -218,9 +218,9 @@ fn list_clips(
     requires fact_1 { length starts.old ≡ 768 }
     requires fact_2 { length ids.old ≡ 768 }
     requires fact_3 { length out.old ≡ 256 }
-    ensures counted { result ≡ length (clips_of from to (held_in (engine_of (before times levels marks numbers)))) }
+    ensures counted { result ≡ length (clips_of from to (held_in (engine_of (before times.now levels.now marks.now numbers.now)))) }
     ensures listed { out.new
-        ≡ written (numbers_of (clips_of from to (held_in (engine_of (before times levels marks numbers))))) out.old }
+        ≡ written (numbers_of (clips_of from to (held_in (engine_of (before times.now levels.now marks.now numbers.now))))) out.old }
 {
     let count = gather(times, levels, marks, numbers, from, to, starts, ids);
     drain_sorted(starts, ids, count, least(count, 256), out);
@@ -251,8 +251,8 @@ pub fn clips(
     to: f64,
     out: &mut [u64],
 ) -> Found
-    ensures answer { result ≡ clips_answer from to out.old (held_in (engine_of (before times levels marks numbers))) }
-    ensures lent { out.new ≡ clips_listed from to out.old (held_in (engine_of (before times levels marks numbers))) }
+    ensures answer { result ≡ clips_answer from to out.old (held_in (engine_of (before times.now levels.now marks.now numbers.now))) }
+    ensures lent { out.new ≡ clips_listed from to out.old (held_in (engine_of (before times.now levels.now marks.now numbers.now))) }
 {
     if !(from < to) {
         return Found::Refused(17);
@@ -284,7 +284,7 @@ pub fn first_from(
     numbers: &Numbers,
     time: f64,
 ) -> FirstWaiting
-    ensures { result ≡ first_read time (engine_of (before times levels marks numbers)) }
+    ensures { result ≡ first_read time (engine_of (before times.now levels.now marks.now numbers.now)) }
 {
     if time != time {
         return FirstWaiting::Refused(17);

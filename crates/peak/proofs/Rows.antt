@@ -11,7 +11,7 @@ use lib.Seq.{drop-cons, get_or-take, length-take-le, take-suc, append_snoc, set_
 use lib.Ieee.{Float, nan}
 use Rattle.peak.specs.Peaks.{magnitude, greatest}
 use Rattle.peak.specs.Steps.{State, suffix_maxima, suffix_maxima_to, serves, advanced, fed, fed_all}
-use Rattle.peak.specs.Turns.{taken, left_alone, next}
+use Rattle.peak.proofs.Turns.{taken, left_alone, next}
 
 module _ (w : ℕ) (l₀ : List ℕ) where
   -- the places from i up to w have their maxima, `most` is the last one written

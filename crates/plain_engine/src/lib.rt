@@ -19,7 +19,7 @@ fn events(
     first: usize,
 ) -> [Event; 256]
     requires { first ≤ 512 }
-    ensures { result ≡ rows (event_at (before times levels marks numbers)) first 256 }
+    ensures { result ≡ rows (event_at (before times.now levels.now marks.now numbers.now)) first 256 }
 {
     let event = memory::event_at(times, levels, marks, numbers, first);
     let mut out = [event; 256];
@@ -33,7 +33,7 @@ fn events(
 
 // The index: the number of each event that sounds.
 fn index(times: &Times, levels: &Levels, marks: &Marks, numbers: &Numbers) -> [EventId; 256]
-    ensures { result ≡ rows (id_at (before times levels marks numbers)) 768 256 }
+    ensures { result ≡ rows (id_at (before times.now levels.now marks.now numbers.now)) 768 256 }
 {
     let mut out = [EventId(0); 256];
     let mut i = 0;
@@ -46,7 +46,7 @@ fn index(times: &Times, levels: &Levels, marks: &Marks, numbers: &Numbers) -> [E
 
 // The stored edits.
 fn edits(times: &Times, levels: &Levels, marks: &Marks, numbers: &Numbers) -> [StoredEdit; 256]
-    ensures { result ≡ rows (edit_at (before times levels marks numbers)) 1024 256 }
+    ensures { result ≡ rows (edit_at (before times.now levels.now marks.now numbers.now)) 1024 256 }
 {
     let unused = StoredEdit {
         id: EventId(0),
@@ -83,7 +83,7 @@ fn mode_of(mode: u64) -> ReplayMode
 
 // The engine that the arrays hold.
 pub fn engine(times: &Times, levels: &Levels, marks: &Marks, numbers: &Numbers) -> Sequencer
-    ensures { result ≡ engine_of (before times levels marks numbers) }
+    ensures { result ≡ engine_of (before times.now levels.now marks.now numbers.now) }
 {
     let ready = events(times, levels, marks, numbers, memory::READY);
     let active = events(times, levels, marks, numbers, memory::ACTIVE);

@@ -16,7 +16,7 @@ use Rattle.event.specs.declared.MixOrder.TheVariants.{Forward}
 use Rattle.event.specs.Blank.{blank}
 use Rattle.floats.specs.Arithmetic.{◌+ᵈ◌, ◌×ᵈ◌, ◌≤ᶠ◌, zeroᶠ, whole}
 use Rattle.ledger.specs.BlockSamples.{Span, after_block, overlay}
-use Rattle.ledger.specs.FormerMethod.{length_channel}
+use Rattle.ledger.proofs.FormerMethod.{length_channel}
 use Rattle.mixing.specs.Blocks.{cleared_places}
 use Rattle.refusals.specs.Refusals.{tick_refusal, process_refusal}
 use Rattle.sequencer.specs.declared.Sequencer.{Sequencer}

@@ -49,11 +49,11 @@ fn perform(
     out: &mut [u8],
     at: usize,
 ) -> Done
-    ensures engine { engine_of (after times levels marks numbers)
-        ≡ (applied_to pool.now (engine_of (before times levels marks numbers)) call samples.old).sequencer }
-    ensures samples { samples.new ≡ applied_out pool.now (engine_of (before times levels marks numbers)) call samples.old }
-    ensures refusal { result.refusal ≡ (applied_to pool.now (engine_of (before times levels marks numbers)) call samples.old).refusal }
-    ensures out { Puts form kind pool.now (engine_of (before times levels marks numbers)) call samples.old
+    ensures engine { engine_of (after times.new levels.new marks.new numbers.new)
+        ≡ (applied_to pool.now (engine_of (before times.old levels.old marks.old numbers.old)) call samples.old).sequencer }
+    ensures samples { samples.new ≡ applied_out pool.now (engine_of (before times.old levels.old marks.old numbers.old)) call samples.old }
+    ensures refusal { result.refusal ≡ (applied_to pool.now (engine_of (before times.old levels.old marks.old numbers.old)) call samples.old).refusal }
+    ensures out { Puts form kind pool.now (engine_of (before times.old levels.old marks.old numbers.old)) call samples.old
         out.old at out.new result.used }
 {
     let left = carry_out(times, levels, marks, numbers, kind, call, pool, samples);
@@ -90,11 +90,11 @@ pub fn run(
     form: Form,
     out: &mut [u8],
 ) -> Played
-    ensures engine { engine_of (after times levels marks numbers)
-        ≡ (ran_on (before times levels marks numbers) cursor tape whole pool form out).sequencer }
-    ensures answer { result ≡ answer_of (ran_on (before times levels marks numbers) cursor tape whole pool form out) }
+    ensures engine { engine_of (after times.new levels.new marks.new numbers.new)
+        ≡ (ran_on (before times.old levels.old marks.old numbers.old) cursor tape.now whole pool.now form out.old).sequencer }
+    ensures answer { result ≡ answer_of (ran_on (before times.old levels.old marks.old numbers.old) cursor tape.now whole pool.now form out.old) }
     ensures lent { out.new
-        ≡ (ran_on (before times levels marks numbers) cursor tape whole pool form out).written ++ drop result.used out.old }
+        ≡ (ran_on (before times.old levels.old marks.old numbers.old) cursor tape.now whole pool.now form out.old).written ++ drop result.used out.old }
 {
     let mut cursor = cursor;
     let mut samples = apply::silence();
@@ -164,7 +164,7 @@ pub fn blank_numbers() -> Numbers
 
 // Makes the engine that a tape begins with: of one channel, mode All, first number 1. The tape's first record, 00, replaces it.
 pub fn start(times: &mut Times, levels: &mut Levels, marks: &mut Marks, numbers: &mut Numbers)
-    ensures { engine_of (after times levels marks numbers) ≡ (created 1 All 1).sequencer }
+    ensures { engine_of (after times.new levels.new marks.new numbers.new) ≡ (created 1 All 1).sequencer }
 {
     live::create(times, levels, marks, numbers, 1, ReplayMode::All, 1);
 }

@@ -56,8 +56,8 @@ pub fn room_for(
     call: Call,
 ) -> usize
     ensures { (kind : ℕ) (pool samples : List Float) → length samples ≡ 512
-        → result ≡ room_for form (left_by form kind (applied_to pool (engine_of (before times levels marks numbers)) call samples)
-        (applied_out pool (engine_of (before times levels marks numbers)) call samples)) }
+        → result ≡ room_for form (left_by form kind (applied_to pool (engine_of (before times.now levels.now marks.now numbers.now)) call samples)
+        (applied_out pool (engine_of (before times.now levels.now marks.now numbers.now)) call samples)) }
 {
     match form {
         Form::Bytes => sound_bytes(

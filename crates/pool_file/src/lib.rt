@@ -8,7 +8,7 @@ ghost use Rattle.std.proofs.lemmas.List.Edits.{sets};
 ghost use Rattle.floats.specs.Arithmetic.{zeroᶠ};
 ghost use Rattle.recording.specs.Samples.{samples_from};
 ghost use Rattle.pool_file.specs.Loading.{ended_by, answer_of, not_loaded, Fills, Loads};
-ghost use Rattle.pool_file.specs.Pools.{is_option, option_line, mono_float, known_by, place_of, nowhere as noPlace, trail_loaded, with_trail_pool};
+ghost use Rattle.pool_file.specs.Pools.{is_option, option_line, mono_float, known_by, place_of, nowhere as no_place, trail_loaded, with_trail_pool};
 
 use std::io::Read;
 use std::rt::Files;
@@ -31,7 +31,7 @@ struct Place {
 }
 
 fn nowhere() -> Place
-    ensures { result ≡ noPlace }
+    ensures { result ≡ no_place }
 {
     Place {
         from: 0,

@@ -1,1 +1,3 @@
 pub mod EveryEntry
+pub mod FadeIn
+pub mod Cases

@@ -1,3 +1,2 @@
 pub mod Preview
 pub mod FadeIn
-pub mod Cases

@@ -10,6 +10,6 @@ samples_from bs zero i = []
 samples_from bs (suc n) i = of_bits binary32 (field bs (4 * i) 4) ∷ samples_from bs n (suc i)
 
 -- ---- computed: 3F800000 and BF000000 are 1 and -0.5
-pub two_samples : samples_from (0 ∷ 0 ∷ 0x80 ∷ 0x3_f ∷ 0 ∷ 0 ∷ 0x00 ∷ 0xBF ∷ []) 2 0 ≡ of_bits binary32 0x3_f800000 ∷ of_bits binary32 0x_bf000000 ∷ []
+pub two_samples : samples_from (0 ∷ 0 ∷ 0x80 ∷ 0x3F ∷ 0 ∷ 0 ∷ 0x00 ∷ 0xBF ∷ []) 2 0 ≡ of_bits binary32 0x3F800000 ∷ of_bits binary32 0xBF000000 ∷ []
 unfolding samples_from field from_little_endian
 two_samples = refl

@@ -17,7 +17,7 @@ use Rattle.ledger.specs.Calls as Calls
 use Rattle.ledger.specs.Calls.{PushKind, absolute, relative, by_duration, EditKind, absolute_end, relative_end, tick, block, rate, reset}
 use Rattle.ledger.specs.Ledger.{Ledger, fresh, create}
 use Rattle.ledger.specs.Steps.{step}
-use Rattle.ledger.specs.Lawful.{Lawful, create_lawful, step_lawful}
+use Rattle.ledger.proofs.Lawful.{Lawful, create_lawful, step_lawful}
 use Rattle.sequencer.specs.declared.Sequencer.{Sequencer}
 use Rattle.sequencer.specs.declared.Outcome.{Outcome}
 use Rattle.sequencer.specs.declared.Answer.{Answer}

@@ -18,7 +18,7 @@ use Rattle.refusals.specs.Refusals.{push_refusal}
 use Rattle.ledger.specs.Calls.{Call}
 use Rattle.ledger.specs.Ledger.{create}
 use Rattle.ledger.specs.Claim.{AllLend, ledger_after}
-use Rattle.ledger.specs.ClaimByRelation as ByRelation
+use Rattle.ledger.proofs.ClaimByRelation as ByRelation
 use Rattle.sequencer.specs.declared.Sequencer.{Sequencer}
 use Rattle.sequencer.specs.declared.Pushed.{Pushed}
 use Rattle.sequencer.specs.Outcomes.{refuses}

@@ -3,7 +3,7 @@
 
 ghost use Rattle.std.specs.Prelude.{◌≡◌, take};
 ghost use Rattle.event.specs.Events.{number_of};
-ghost use Rattle.ledger.specs.Lists.{has as hasNumber};
+ghost use Rattle.ledger.specs.Lists.{has as has_number};
 ghost use Rattle.standing.specs.Standings.{standing_in, edit_answer};
 
 use event::Event;
@@ -29,7 +29,7 @@ fn number_of(event: Event) -> u64
 
 // Whether the first events of an array have the number.
 fn has(events: [Event; 256], len: usize, number: u64) -> bool
-    ensures { result ≡ hasNumber number (take len events) }
+    ensures { result ≡ has_number number (take len events) }
 {
     let n = least(len, 256);
     let mut i = 0;

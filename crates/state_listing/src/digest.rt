@@ -1,7 +1,7 @@
 // Digests: every number and every float's bits of a part go into one number, so that a part that differs in one place has another digest.
 ghost use Rattle.std.specs.Prelude.{◌≡◌, [], ◌∷◌, to_bits};
 ghost use Rattle.std.specs.Float.{binary32, binary64};
-ghost use Rattle.digests.specs.Digests.{mixed as mixedBy, mixed_all};
+ghost use Rattle.digests.specs.Digests.{mixed as mixed_by, mixed_all};
 ghost use Rattle.event.specs.Numbers.{curve_number};
 ghost use Rattle.state_listing.specs.Digests.{unit_words, event_words, edit_words, message_words, ordered_events, unordered_events, index_digest, edits_digest, messages_digest, returned_digest};
 
@@ -12,13 +12,13 @@ use realseq::{Message, Messages, Returned};
 use runs::least;
 
 fn mixed_time(digest: u64, x: f64) -> u64
-    ensures { result ≡ mixedBy digest (to_bits binary64 x) }
+    ensures { result ≡ mixed_by digest (to_bits binary64 x) }
 {
     mixed(digest, float_bits::f64_to_bits(x))
 }
 
 fn mixed_sample(digest: u64, x: f32) -> u64
-    ensures { result ≡ mixedBy digest (to_bits binary32 x) }
+    ensures { result ≡ mixed_by digest (to_bits binary32 x) }
 {
     mixed(digest, float_bits::f32_to_bits(x) as u64)
 }

@@ -11,8 +11,8 @@ use Rattle.floats.specs.Arithmetic.{◌+ˢ◌, zeroᶠ}
 use Rattle.event.specs.declared.Event.{Event}
 use Rattle.ledger.specs.TickSamples.{tick_sum, tick_sample}
 use Rattle.ledger.specs.BlockSamples.{Span, first_place, end_place, faded_run, add_at, channel_after, scratch_after, block_sum}
-use Rattle.ledger.specs.FadesByPlace.{length-faded-run}
-use Rattle.ledger.specs.FormerMethod.{length_channel}
+use Rattle.ledger.proofs.FadesByPlace.{length-faded-run}
+use Rattle.ledger.proofs.FormerMethod.{length_channel}
 use Rattle.sums.specs.Multiples.{multiples, summed, exact_sum, Exactly}
 use Rattle.sums.specs.Contributions.{tick_contributions, contribution, block_contributions}
 use Rattle.sums.specs.Theorem.{Sums, sums}

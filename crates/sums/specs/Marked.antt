@@ -15,15 +15,15 @@ use Rattle.event.specs.declared.MixOrder.TheVariants.{Forward, Backward}
 use Rattle.event.specs.declared.ReplayMode.{ReplayMode}
 use Rattle.ledger.specs.BlockSamples.{block_sum, overlay}
 use Rattle.ledger.specs.Calls.{Call, tick, block}
-use Rattle.ledger.specs.Conservation.{held_sum_advance, event_sum_stays}
-use Rattle.ledger.specs.FormerMethod.{length-sum}
-use Rattle.ledger.specs.Lawful.{create_lawful, run_lawful}
+use Rattle.ledger.proofs.Conservation.{held_sum_advance, event_sum_stays}
+use Rattle.ledger.proofs.FormerMethod.{length-sum}
+use Rattle.ledger.proofs.Lawful.{create_lawful, run_lawful}
 use Rattle.ledger.specs.Ledger.{Ledger, held, create}
-use Rattle.ledger.specs.Limits.{held-is}
+use Rattle.ledger.proofs.Limits.{held-is}
 use Rattle.ledger.specs.Refusals.{checks, refusal, length_or, tick_end, block_end}
-use Rattle.ledger.specs.Refused.{all_pass}
+use Rattle.ledger.proofs.Refused.{all_pass}
 use Rattle.ledger.specs.Steps.{advance, in_order, span_of, cleared, accept, decide, step, run}
-use Rattle.ledger.specs.Sums.{event_sum_one}
+use Rattle.ledger.proofs.Sums.{event_sum_one}
 use Rattle.sums.specs.Contributions.{All, TickQualifies, BlockQualifies}
 use Rattle.sums.specs.AnyOrder.{tick_any_order, block-any_order}
 use Rattle.sums.specs.Qualifying.{tick_qualifies, block_qualifies}

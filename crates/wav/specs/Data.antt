@@ -56,7 +56,7 @@ abbrev three_channels : List ℕ
 three_channels = 0x00 ∷ 0x03 ∷ drop 2 example
 
 pub three_channels_lem : tape_data trail_pool three_channels ≡
-    0 ∷ 0 ∷ 0x80 ∷ 0x3_f ∷ 0 ∷ 0 ∷ 0x80 ∷ 0x3_f ∷ 0 ∷ 0 ∷ 0x80 ∷ 0x3_f
+    0 ∷ 0 ∷ 0x80 ∷ 0x3F ∷ 0 ∷ 0 ∷ 0x80 ∷ 0x3F ∷ 0 ∷ 0 ∷ 0x80 ∷ 0x3F
     ∷ 0 ∷ 0 ∷ 0 ∷ 0 ∷ 0 ∷ 0 ∷ 0 ∷ 0 ∷ 0 ∷ 0 ∷ 0 ∷ 0
     ∷ 0 ∷ 0 ∷ 0 ∷ 0 ∷ 0 ∷ 0 ∷ 0 ∷ 0 ∷ 0 ∷ 0 ∷ 0 ∷ 0 ∷ []
 unfolding computes tape_data frame_at record_of unknown push_kind size_of call_of push_of source_of field from_little_endian

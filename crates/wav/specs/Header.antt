@@ -22,13 +22,13 @@ abbrev pub WAVE : ℕ
 WAVE = 0x45564157
 
 abbrev pub JUNK : ℕ
-JUNK = 0x4_b4_e554_a
+JUNK = 0x4B4E554A
 
 abbrev pub ds64 : ℕ
 ds64 = 0x34367364
 
 abbrev pub fmt : ℕ
-fmt = 0x20746_d66
+fmt = 0x20746D66
 
 abbrev pub fact : ℕ
 fact = 0x74636166

@@ -23,59 +23,59 @@ of_arm c t (p, q) = (
 pub returns-in-Create : goal.returns-in-Create
 unfolding applied_to applied_out
 returns-in-Create c =
-    let d = c.before.before.before in
-    of_arm d.before.before.before.before d.in-Create.is (c.silent.ensures ∙ (λ i. silent_of (c.new.ensures i)), refl)
+    let d = c.before in
+    let r = of_arm d.before.before.before.before d.in-Create.is (c.silent.ensures ∙ (λ i. silent_of (c.new.ensures i)), refl) in record { value = r.0; out_after = r.1 }
 
 pub returns-in-Push : goal.returns-in-Push
 unfolding applied_to applied_out
 returns-in-Push c =
-    let d = c.before.before.before in
-    of_arm d.before.before.before.before d.in-Push.is (c.silent-in-Push.ensures ∙ (λ i. silent_of (c.push.ensures i)), refl)
+    let d = c.before in
+    let r = of_arm d.before.before.before.before d.in-Push.is (c.silent-in-Push.ensures ∙ (λ i. silent_of (c.push.ensures i)), refl) in record { value = r.0; out_after = r.1 }
 
 pub returns-in-PushRelative : goal.returns-in-PushRelative
 unfolding applied_to applied_out
 returns-in-PushRelative c =
-    let d = c.before.before.before in
-    of_arm d.before.before.before.before d.in-PushRelative.is (c.silent-in-PushRelative.ensures ∙ (λ i. silent_of (c.push-in-PushRelative.ensures i)), refl)
+    let d = c.before in
+    let r = of_arm d.before.before.before.before d.in-PushRelative.is (c.silent-in-PushRelative.ensures ∙ (λ i. silent_of (c.push-in-PushRelative.ensures i)), refl) in record { value = r.0; out_after = r.1 }
 
 pub returns-in-PushDuration : goal.returns-in-PushDuration
 unfolding applied_to applied_out
 returns-in-PushDuration c =
-    let d = c.before.before.before in
-    of_arm d.before.before.before.before d.in-PushDuration.is (c.silent-in-PushDuration.ensures ∙ (λ i. silent_of (c.push-in-PushDuration.ensures i)), refl)
+    let d = c.before in
+    let r = of_arm d.before.before.before.before d.in-PushDuration.is (c.silent-in-PushDuration.ensures ∙ (λ i. silent_of (c.push-in-PushDuration.ensures i)), refl) in record { value = r.0; out_after = r.1 }
 
 pub returns-in-Edit : goal.returns-in-Edit
 unfolding applied_to applied_out
 returns-in-Edit c =
-    let d = c.before.before.before.before in
-    of_arm d.before.before.before.before d.in-Edit.is (c.silent-in-Edit.ensures ∙ (λ i. silent_of (c.edit.ensures i)), refl)
+    let d = c.before in
+    let r = of_arm d.before.before.before.before d.in-Edit.is (c.silent-in-Edit.ensures ∙ (λ i. silent_of (c.edit.ensures i)), refl) in record { value = r.0; out_after = r.1 }
 
 pub returns-in-EditRelative : goal.returns-in-EditRelative
 unfolding applied_to applied_out
 returns-in-EditRelative c =
-    let d = c.before.before.before.before in
-    of_arm d.before.before.before.before d.in-EditRelative.is (c.silent-in-EditRelative.ensures ∙ (λ i. silent_of (c.edit_relative.ensures i)), refl)
+    let d = c.before in
+    let r = of_arm d.before.before.before.before d.in-EditRelative.is (c.silent-in-EditRelative.ensures ∙ (λ i. silent_of (c.edit_relative.ensures i)), refl) in record { value = r.0; out_after = r.1 }
 
 pub returns-in-Tick : goal.returns-in-Tick
 unfolding applied_to applied_out
 returns-in-Tick c =
-    let d = c.before.before.before.before in
-    of_arm d.before.before.before.before d.in-Tick.is c.tick.ensures
+    let d = c.before in
+    let r = of_arm d.before.before.before.before d.in-Tick.is c.tick.ensures in record { value = r.0; out_after = r.1 }
 
 pub returns-in-Process : goal.returns-in-Process
 unfolding applied_to applied_out
 returns-in-Process c =
-    let d = c.before.before.before.before.before in
-    of_arm d.before.before.before.before d.in-Process.is c.process.ensures
+    let d = c.before in
+    let r = of_arm d.before.before.before.before d.in-Process.is c.process.ensures in record { value = r.0; out_after = r.1 }
 
 pub returns-in-Reset : goal.returns-in-Reset
 unfolding applied_to applied_out
 returns-in-Reset c =
     let d = c.before in
-    of_arm d.before.before.before.before d.in-Reset.is ((λ i. silent (c.reset.ensures i) 0), refl)
+    let r = of_arm d.before.before.before.before d.in-Reset.is ((λ i. silent (c.reset.ensures i) 0), refl) in record { value = r.0; out_after = r.1 }
 
 pub returns-in-SetSampleRate : goal.returns-in-SetSampleRate
 unfolding applied_to applied_out
 returns-in-SetSampleRate c =
-    let d = c.before.before.before in
-    of_arm d.before.before.before.before d.in-SetSampleRate.is (c.silent-in-SetSampleRate.ensures ∙ (λ i. silent_of (c.set_sample_rate.ensures i)), refl)
+    let d = c.before in
+    let r = of_arm d.before.before.before.before d.in-SetSampleRate.is (c.silent-in-SetSampleRate.ensures ∙ (λ i. silent_of (c.set_sample_rate.ensures i)), refl) in record { value = r.0; out_after = r.1 }

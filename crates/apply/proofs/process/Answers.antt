@@ -15,8 +15,5 @@ pub returns : goal.returns
 unfolding processing processing_out
 returns c =
     let t = c.process-r.ensures in
-    let d = c.before.before.before.before.before in
-    let a = d.args in (
-      lent-answer a.out.now (λ (k : ℕ). 64 * k) d.least-channels.ensures d.least-n.ensures (λ (n : ℕ). blocks Forward a.pool.now a.size n a.s) a.size 64 t.0 c.sounding.ensures,
-      lent_output a.out.now (λ (k : ℕ). 64 * k) d.least-channels.ensures d.least-n.ensures (block_outs Forward a.pool.now a.size a.s) t.1,
-    )
+    let d = c.before in
+    let a = d.args in record { value = lent-answer a.out.now (λ (k : ℕ). 64 * k) d.least-channels.ensures d.least-n.ensures (λ (n : ℕ). blocks Forward a.pool.now a.size n a.s) a.size 64 t.0 c.sounding.ensures; out_after = lent_output a.out.now (λ (k : ℕ). 64 * k) d.least-channels.ensures d.least-n.ensures (block_outs Forward a.pool.now a.size a.s) t.1 }

@@ -27,6 +27,6 @@ returns-in-2 c =
 pub returns-in_default : goal.returns-in_default
 returns-in_default c =
     let a = c.args in
-    let r = c.in_default.rest in
+    let r = c.in_default.in_default-own.rest in
     let e : push_kind_of a.kind ≡ by_duration = simp (ne_eqb _ _ r.1, ne_eqb _ _ r.0.1) in
     c.outcome-in_default.ensures ∙ ap plain c.push_duration.ensures ∙ ap (λ (k : PushKind). pushed k a.s a.p) (sym e)

@@ -15,8 +15,5 @@ pub returns : goal.returns
 unfolding ticking ticking_out
 returns c =
     let t = c.tick-r.ensures in
-    let d = c.before.before.before.before.before in
-    let a = d.args in (
-      lent-answer a.out.now (λ (k : ℕ). k) d.least-channels.ensures d.least-n.ensures (λ (n : ℕ). ticks Forward a.pool.now n a.s) 1 1 t.0 c.sounding.ensures,
-      lent_output a.out.now (λ (k : ℕ). k) d.least-channels.ensures d.least-n.ensures (tick_outs Forward a.pool.now a.s) t.1,
-    )
+    let d = c.before in
+    let a = d.args in record { value = lent-answer a.out.now (λ (k : ℕ). k) d.least-channels.ensures d.least-n.ensures (λ (n : ℕ). ticks Forward a.pool.now n a.s) 1 1 t.0 c.sounding.ensures; out_after = lent_output a.out.now (λ (k : ℕ). k) d.least-channels.ensures d.least-n.ensures (tick_outs Forward a.pool.now a.s) t.1 }

@@ -9,25 +9,26 @@ use Rattle.tape.specs.declared.reader.PushRecord.{PushRecord}
 use Rattle.apply.specs.Applying.{push_kind_of, pushed}
 use Rattle.batch.proofs.Running.{of_kind}
 use borrow.Author.Rules.{rules}
+use Rattle.std.proofs.Common.{arith}
 use Rattle.batch.proofs.push_of_kind.Goals as goal
-use Rattle.batch.proofs.push_of_kind.Goals.{Start}
-
--- the engine at entry
-abbrev engine : Start → Sequencer
-engine c = engine_of (cells_of c.args.times.now c.args.levels.now c.args.marks.now c.args.numbers.now)
 
 pub returns-in-1 : goal.returns-in-1
 returns-in-1 c =
-    let e : push_kind_of c.args.kind ≡ absolute = simp (eq-eqb _ _ c.in-1.is) in
-    of_kind (engine c.before.before.before.before.before.before) c.args.p e c.push.ensures
+    let a = c.args in
+    let e : push_kind_of a.kind ≡ absolute = ap push_kind_of c.in-1.is in
+    let r = of_kind (engine_of (cells_of a.times.now a.levels.now a.marks.now a.numbers.now)) a.p e (c.push.ensures.engine, c.push.ensures.answer) in
+    record { engine = r.0; answer = r.1 }
 
 pub returns-in-2 : goal.returns-in-2
 returns-in-2 c =
-    let e : push_kind_of c.args.kind ≡ relative = simp c.in-2.is in
-    of_kind (engine c.before.before.before.before.before.before) c.args.p e c.push_relative.ensures
+    let a = c.args in
+    let e : push_kind_of a.kind ≡ relative = ap push_kind_of c.in-2.is in
+    let r = of_kind (engine_of (cells_of a.times.now a.levels.now a.marks.now a.numbers.now)) a.p e (c.push_relative.ensures.engine, c.push_relative.ensures.answer) in
+    record { engine = r.0; answer = r.1 }
 
 pub returns-in_default : goal.returns-in_default
 returns-in_default c =
-    let r = c.in_default.rest in
-    let e : push_kind_of c.args.kind ≡ by_duration = simp (ne_eqb _ _ r.1, ne_eqb _ _ r.0.1) in
-    of_kind (engine c.before.before.before.before.before.before) c.args.p e c.push_duration.ensures
+    let a = c.args in
+    let e : push_kind_of a.kind ≡ by_duration = simp (ne_eqb a.kind 1 (λ h. omega arith), ne_eqb a.kind 2 (λ h. omega arith)) in
+    let r = of_kind (engine_of (cells_of a.times.now a.levels.now a.marks.now a.numbers.now)) a.p e (c.push_duration.ensures.engine, c.push_duration.ensures.answer) in
+    record { engine = r.0; answer = r.1 }

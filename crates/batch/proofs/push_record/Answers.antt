@@ -3,27 +3,24 @@ use mathlib.Core.Path.{◌≡◌, sym, ap, ◌∙◌}
 use borrow.Author.Tests.{eq-eqb, ne_eqb}
 use lib.Dec.{eqb}
 use Prim.Native.Nat.{ℕ}
-use Rattle.sequencer.specs.declared.Sequencer.{Sequencer}
 use Rattle.memory.specs.Memory.{cells_of, engine_of}
 use Rattle.tape.specs.Tape.{plain_kind}
 use Rattle.apply.specs.Applying.{push_kind_of}
 use Rattle.batch.proofs.Running.{stops-one, pushed-one}
-use borrow.Author.Rules.{rules}
 use Rattle.batch.proofs.push_record.Goals as goal
-use Rattle.batch.proofs.push_record.Goals.{Start}
-
--- the engine at entry
-abbrev engine : Start → Sequencer
-engine c = engine_of (cells_of c.args.times.now c.args.levels.now c.args.marks.now c.args.numbers.now)
 
 pub returns-then-stop-ne0 : goal.returns-then-stop-ne0
 returns-then-stop-ne0 c =
+    let a = c.args in
     let h = sym (ap (λ (k : ℕ). eqb k 0) c.stop_of-stop.ensures) ∙ ne_eqb _ 0 c.if-stop-ne0.true in
-    let r = stops-one c.args.bs.now (engine c.before.before.before) h in
+    let r = stops-one a.bs.now (engine_of (cells_of a.times.now a.levels.now a.marks.now a.numbers.now)) h in
     record { engine = r.0; answer = c.stop_of-stop.ensures ∙ r.1 }
 
 pub returns : goal.returns
 returns c =
+    let a = c.args in
     let h = sym (ap (λ (k : ℕ). eqb k 0) c.stop_of-stop.ensures) ∙ eq-eqb _ 0 c.if-stop-ne0.false in
     let k = ap push_kind_of (c.plain_kind-kind.ensures ∙ ap plain_kind c.byte-byte.ensures) in
-    pushed-one c.args.bs.now (engine c.before.before.before.before.before.before.before.before.before.before.before.before) _ _ c.plain_kind-kind.result c.push_of-p.result _ h k c.push_of-p.ensures c.push_of_kind-answer.ensures.engine c.push_of_kind-answer.ensures.answer c.refusal.ensures
+    let r = pushed-one a.bs.now (engine_of (cells_of a.times.now a.levels.now a.marks.now a.numbers.now)) _ _ c.plain_kind-kind.result c.push_of-p.result _ h k
+        c.push_of-p.ensures c.push_of_kind-answer.ensures.engine c.push_of_kind-answer.ensures.answer c.refusal.ensures in
+    record { engine = r.0; answer = r.1 }

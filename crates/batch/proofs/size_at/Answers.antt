@@ -6,4 +6,4 @@ use borrow.Author.Rules.{rules}
 use Rattle.batch.proofs.size_at.Goals as goal
 
 pub returns : goal.returns
-returns c = c.type_size.ensures ∙ ap (λ (k : ℕ). size_of k) c.byte.ensures
+returns c = c.size_of.ensures ∙ ap (λ (k : ℕ). size_of k) c.byte.ensures

@@ -20,33 +20,28 @@ returns-then-not-is_push c = rw (ne_eqb _ _ c.if-bs-eq0.false, ← c.byte-kind.e
 pub returns-then-is_unknown_push : goal.returns-then-is_unknown_push
 unfolding stop_of
 returns-then-is_unknown_push c =
-    let d = c.before.before in
-    rw (ne_eqb _ _ d.if-bs-eq0.false, ← d.byte-kind.ensures, sym d.is_push.ensures ∙ not-false _ d.if-not-is_push.false-raw, sym c.is_unknown_push.ensures ∙ c.if-is_unknown_push.true)
+    rw (ne_eqb _ _ c.if-bs-eq0.false, ← c.byte-kind.ensures, sym c.is_push.ensures ∙ not-false _ c.if-not-is_push.false-raw, sym c.is_unknown_push.ensures ∙ c.if-is_unknown_push.true)
 
 pub returns-then-bs-size_of : goal.returns-then-bs-size_of
 unfolding stop_of
 returns-then-bs-size_of c =
-    let e = c.before.before in
-    let d = e.before.before in
     rw (
-      ne_eqb _ _ d.if-bs-eq0.false,
-      ← d.byte-kind.ensures,
-      sym d.is_push.ensures ∙ not-false _ d.if-not-is_push.false-raw,
-      sym e.is_unknown_push.ensures ∙ e.if-is_unknown_push.false,
-      ← c.type_size.ensures,
+      ne_eqb _ _ c.if-bs-eq0.false,
+      ← c.byte-kind.ensures,
+      sym c.is_push.ensures ∙ not-false _ c.if-not-is_push.false-raw,
+      sym c.is_unknown_push.ensures ∙ c.if-is_unknown_push.false,
+      ← c.size_of.ensures,
       lt-ltb _ _ c.if-bs-size_of.true,
     )
 
 pub returns : goal.returns
 unfolding stop_of
 returns c =
-    let e = c.before.before in
-    let d = e.before.before in
     rw (
-      ne_eqb _ _ d.if-bs-eq0.false,
-      ← d.byte-kind.ensures,
-      sym d.is_push.ensures ∙ not-false _ d.if-not-is_push.false-raw,
-      sym e.is_unknown_push.ensures ∙ e.if-is_unknown_push.false,
-      ← c.type_size.ensures,
+      ne_eqb _ _ c.if-bs-eq0.false,
+      ← c.byte-kind.ensures,
+      sym c.is_push.ensures ∙ not-false _ c.if-not-is_push.false-raw,
+      sym c.is_unknown_push.ensures ∙ c.if-is_unknown_push.false,
+      ← c.size_of.ensures,
       le-ltb _ _ c.if-bs-size_of.false,
     )

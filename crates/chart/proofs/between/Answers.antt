@@ -17,29 +17,23 @@ returns-then-n-gt64 c = let a = c.args in c.least-begin.ensures ∙ between_many
 
 pub overflow_mul-result : goal.overflow_mul-result
 overflow_mul-result c =
-    let b = c.before.before.before.before in
-    let e = b.least-end.ensures in
+    let e = c.least-end.ensures in
     let f = c.least.ensures in
     let h = c.if-n-gt64.false in
-    let p = product (b.least-end.result - b.least-begin.result) c.least.result (omega arith) (omega arith) in
+    let p = product (c.least-end.result - c.least-begin.result) c.least.result (omega arith) (omega arith) in
     omega arith
 
 pub overflow_add-result : goal.overflow_add-result
 overflow_add-result c =
-    let s1 = c.before in
-    let s4 = s1.before.before.before in
-    let s5 = s4.before in
-    let s6 = s5.before in
-    let d = s5.least-begin.ensures in
-    let e = s4.least-end.ensures in
+    let d = c.least-begin.ensures in
+    let e = c.least-end.ensures in
     let f = c.least.ensures in
-    let h = s1.if-n-gt64.false in
-    let p = product (s4.least-end.result - s5.least-begin.result) c.least.result (omega arith) (omega arith) in
-    let q = div-le_self ((s4.least-end.result - s5.least-begin.result) * c.least.result) s6.args.n in
+    let h = c.if-n-gt64.false in
+    let p = product (c.least-end.result - c.least-begin.result) c.least.result (omega arith) (omega arith) in
+    let q = div-le_self ((c.least-end.result - c.least-begin.result) * c.least.result) c.args.n in
     omega arith
 
 pub returns : goal.returns
 returns c =
-    let b = c.before.before.before.before in
-    let a = b.args in
-    rw (b.least-begin.ensures, b.least-end.ensures, c.least.ensures) (between-at a.from a.to a.k a.n c.if-n-eq0.false c.if-n-gt64.false)
+    let a = c.args in
+    rw (c.least-begin.ensures, c.least-end.ensures, c.least.ensures) (between-at a.from a.to a.k a.n c.if-n-eq0.false c.if-n-gt64.false)

@@ -10,7 +10,8 @@ returns-then-whole-eq0 c = record { value = column_none c.args.time c.args.total
 pub returns : goal.returns
 returns c =
     let a = c.args in
-    let n = c.least-whole in (
-      rw (c.least.ensures, n.ensures) (column_at a.time a.total (λ e. c.if-whole-eq0.false (n.ensures ∙ e))),
-      rw c.least.ensures (column_within a.time n.result),
-    )
+    let n = c.least-whole in
+    record {
+      value = rw (c.least.ensures, n.ensures) (column_at a.time a.total (λ e. c.if-whole-eq0.false (n.ensures ∙ e)));
+      upper_bound = rw c.least.ensures (column_within a.time n.result);
+    }

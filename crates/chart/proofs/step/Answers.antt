@@ -14,17 +14,15 @@ loop-i-init c = (omega arith, refl)
 
 pub returns-then-total-s : goal.returns-then-total-s
 returns-then-total-s c =
-    let l = c.before.before.before in
-    let n = l.args.total in
+    let n = c.args.total in
     let e = c.step_at-s.ensures in
-    rw e (step_here steps l.loop-i.i n c.loop-i-test.true (subst (λ x. n / 14 < x) e c.if-total-s.true) ∙ l.loop-i.invariant.1)
+    rw e (step_here steps c.loop-i.i n c.loop-i-test.true (subst (λ x. n / 14 < x) e c.if-total-s.true) ∙ c.loop-i.invariant.1)
 
 pub loop-i-preserved : goal.loop-i-preserved
 loop-i-preserved c =
-    let l = c.before.before.before in
-    let n = l.args.total in
+    let n = c.args.total in
     let h = c.loop-i-test.true in
-    (omega arith, sym (step_on steps l.loop-i.i n h (subst (λ x. x ≤ n / 14) c.step_at-s.ensures c.if-total-s.false)) ∙ l.loop-i.invariant.1)
+    (omega arith, sym (step_on steps c.loop-i.i n h (subst (λ x. x ≤ n / 14) c.step_at-s.ensures c.if-total-s.false)) ∙ c.loop-i.invariant.1)
 
 pub returns : goal.returns
 unfolding step_in

@@ -9,4 +9,4 @@ overflow_add-turned c = record { fits = turned_fits _ c.ranges.digest.fits }
 
 pub returns : goal.returns
 unfolding mixed
-returns c = c.wrapping_add_u64.ensures
+returns c = c.wrapping_add_u64.ensures.value

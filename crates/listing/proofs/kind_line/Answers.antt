@@ -16,7 +16,7 @@ returns-then-out-spaced_length c =
     let n = kind_long c.args.kind c.args.numbers.now in
     let l = c.spaced_length.ensures.value in
     let t = c.if-out-spaced_length.true in
-    put-none _ _ (omega arith)
+    let r = put-none _ _ (omega arith) in record { out_after = r.0; value = r.1 }
 
 pub put_numbers-to-requires : goal.put_numbers-to-requires
 put_numbers-to-requires c =
@@ -29,10 +29,10 @@ pub bounds-out-to : goal.bounds-out-to
 bounds-out-to c =
     let a = c.args in
     let n = c.put_numbers-to.ensures in
-    let p = kind_put _ _ _ a.kind a.numbers.now _ c.put_digits.ensures n.0 n.1 in
+    let p = kind_put _ _ _ a.kind a.numbers.now _ c.put_digits.ensures n.out_after n.value in
     let s = same-long p in
     let l = c.spaced_length.ensures.value in
-    let q = n.1 in
+    let q = n.value in
     let t = c.if-out-spaced_length.false in
     omega arith
 
@@ -46,15 +46,15 @@ pub shape_of-out : goal.shape_of-out
 shape_of-out c =
     let a = c.args in
     let n = c.put_numbers-to.ensures in
-    let p = kind_put _ _ _ a.kind a.numbers.now _ c.put_digits.ensures n.0 n.1 in
+    let p = kind_put _ _ _ a.kind a.numbers.now _ c.put_digits.ensures n.out_after n.value in
     simp length-set (same-long p)
 
 pub returns : goal.returns
 returns c =
     let a = c.args in
     let n = c.put_numbers-to.ensures in
-    let p = kind_put _ _ _ a.kind a.numbers.now _ c.put_digits.ensures n.0 n.1 in
+    let p = kind_put _ _ _ a.kind a.numbers.now _ c.put_digits.ensures n.out_after n.value in
     let l = c.spaced_length.ensures.value in
-    let q = n.1 in
+    let q = n.value in
     let t = c.if-out-spaced_length.false in
-    put_whole (further (10 ∷ []) [] p _ refl) (omega arith)
+    let r = put_whole (further (10 ∷ []) [] p _ refl) (omega arith) in record { out_after = r.0; value = r.1 }

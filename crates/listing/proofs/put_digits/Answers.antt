@@ -13,19 +13,19 @@ pub loop-left-init : goal.loop-left-init
 loop-left-init c = (first-digit _ _ _ _ _, search rules)
 
 pub nonzero_rem-rest : goal.nonzero_rem-rest
-nonzero_rem-rest c = let p = c.requires.0 in omega arith
+nonzero_rem-rest c = let p = c.requires.fact_1 in omega arith
 
 pub digit-requires : goal.digit-requires
-digit-requires c = let s = c.before.before.before in let p = s.requires.0 in let q = s.requires.1.0 in lt_of_lt_of_le (mod-lt c.loop-left.rest (let z : 0 < s.args.base = omega arith in z)) q
+digit-requires c = let p = c.requires.fact_1 in let q = c.requires.fact_2 in lt_of_lt_of_le (mod-lt c.loop-left.rest (let z : 0 < c.args.base = omega arith in z)) q
 
 pub overflow_add-out : goal.overflow_add-out
-overflow_add-out c = let s = c.before.before.before.before in let p = s.requires.1.1 in let q = c.loop-left.invariant.1 in search rules
+overflow_add-out c = let p = c.requires.fact_3 in let q = c.loop-left.invariant.1 in search rules
 
 pub bounds-out-at : goal.bounds-out-at
-bounds-out-at c = let s = c.before.before.before.before in let p = s.requires.1.1 in let q = c.loop-left.invariant.1 in let h = ap length c.loop-left.invariant.0.is ∙ length-sets _ _ c.loop-left.invariant.0.acc in omega arith
+bounds-out-at c = let p = c.requires.fact_3 in let q = c.loop-left.invariant.1 in let h = ap length c.loop-left.invariant.0.is ∙ length-sets _ _ c.loop-left.invariant.0.acc in omega arith
 
 pub nonzero_div-rest : goal.nonzero_div-rest
-nonzero_div-rest c = let p = c.requires.0 in omega arith
+nonzero_div-rest c = let p = c.requires.fact_1 in omega arith
 
 pub loop-left-smaller : goal.loop-left-smaller
 loop-left-smaller c = omega arith

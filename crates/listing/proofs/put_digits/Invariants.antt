@@ -10,7 +10,7 @@ use borrow.Author.Rules.{rules}
 use Rattle.listing.proofs.put_digits.Given as goal
 
 abbrev pub invariant-loop-left : goal.invariant-loop-left
-invariant-loop-left l = Backward l.initial.l.out l.at l.base (digits l.base l.width l.n) l.out l.left l.rest × (l.left ≤ l.width)
+invariant-loop-left l = Backward l.initial.out l.at l.base (digits l.base l.width l.n) l.out l.left l.rest × (l.left ≤ l.width)
 
 abbrev pub decreases-loop-left : goal.decreases-loop-left
 decreases-loop-left l = l.left

@@ -11,7 +11,7 @@ use borrow.Author.Rules.{rules}
 use Rattle.listing.proofs.put_number.Goals as goal
 
 pub put_digits-requires : goal.put_digits-requires
-put_digits-requires c = let d = length-decimal c.args.n in (omega arith, (omega arith, simp length-set (omega arith)))
+put_digits-requires c = let d = length-decimal c.args.n in record { fact_1 = omega arith; fact_2 = omega arith; fact_3 = simp length-set (omega arith) }
 
 pub shape_of-out : goal.shape_of-out
 shape_of-out c = ap length c.put_digits.ensures ∙ simp (length-sets, length-set)

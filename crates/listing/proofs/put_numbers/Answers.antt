@@ -21,10 +21,10 @@ loop-i-preserved c =
     let n = get_or c.args.numbers.now c.loop-i.i 0 in
     let h = c.loop-i-test.true in
     let p = c.put_number-to.ensures in
-    next_piece spaced _ _ _ c.loop-i.invariant h (32 ∷ decimal n) (spaced-step _ _ h) _ p.0 _ p.1
+    next_piece spaced _ _ _ c.loop-i.invariant h (32 ∷ decimal n) (spaced-step _ _ h) _ p.out_after _ p.value
 
 pub shape_of-out : goal.shape_of-out
 shape_of-out c = same-long c.loop-i.invariant.put
 
 pub returns : goal.returns
-returns c = last_piece spaced _ _ _ c.loop-i.invariant c.loop-i-test.false spaced_end
+returns c = let r = last_piece spaced _ _ _ c.loop-i.invariant c.loop-i-test.false spaced_end in record { out_after = r.0; value = r.1 }

@@ -9,7 +9,7 @@ use Rattle.listing.proofs.Lines.{spaced-step, spaced_end}
 use Rattle.listing.proofs.put_numbers.Given as goal
 
 abbrev pub invariant-loop-i : goal.invariant-loop-i
-invariant-loop-i l = Pieces spaced l.numbers l.initial.l.out l.at l.out l.to l.i
+invariant-loop-i l = Pieces spaced l.numbers l.initial.out l.at l.out l.to l.i
 
 abbrev pub decreases-loop-i : goal.decreases-loop-i
 decreases-loop-i l = length l.numbers - l.i

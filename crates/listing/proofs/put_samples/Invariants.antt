@@ -10,7 +10,7 @@ use Rattle.listing.proofs.Lines.{sample_text, sample_long, samples_step, samples
 use Rattle.listing.proofs.put_samples.Given as goal
 
 abbrev pub invariant-loop-i : goal.invariant-loop-i
-invariant-loop-i l = Pieces samples_from l.samples l.initial.l.out 0 l.out l.to l.i
+invariant-loop-i l = Pieces samples_from l.samples l.initial.out 0 l.out l.to l.i
 
 abbrev pub decreases-loop-i : goal.decreases-loop-i
 decreases-loop-i l = length l.samples - l.i

@@ -19,7 +19,7 @@ pub returns-then-out-samples : goal.returns-then-out-samples
 returns-then-out-samples c =
     let n = length_samples c.args.samples.now c.if-samples-eq0.false in
     let t = c.if-out-samples.true in
-    put-none _ _ (omega arith)
+    let r = put-none _ _ (omega arith) in record { out_after = r.0; value = r.1 }
 
 pub put_samples-requires : goal.put_samples-requires
 put_samples-requires c = let t = c.if-out-samples.false in omega arith

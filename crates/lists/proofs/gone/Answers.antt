@@ -12,4 +12,4 @@ pub returns-in-None : goal.returns-in-None
 unfolding gone_by
 returns-in-None c =
     let a = c.args in
-    c.wrapping_add_u64.ensures ∙ sym (ap (λ (m : ReplayMode). gone_by m a.let_go a.past-len) c.in-None.is)
+    c.wrapping_add_u64.ensures.value ∙ sym (ap (λ (m : ReplayMode). gone_by m a.let_go a.past_len) c.in-None.is)

@@ -13,7 +13,7 @@ pub shape_of-out-then-numbers-i : goal.shape_of-out-then-numbers-i
 shape_of-out-then-numbers-i c = same-long c.loop-i.invariant.put
 
 pub returns-then-numbers-i : goal.returns-then-numbers-i
-returns-then-numbers-i c = stop _ _ _ c.loop-i.invariant (no_number _ _ _ _ c.loop-i-test.true c.if-numbers-i.true)
+returns-then-numbers-i c = let r = stop _ _ _ c.loop-i.invariant (no_number _ _ _ _ c.loop-i-test.true c.if-numbers-i.true) in record { count = r.0; lent = r.1 }
 
 pub overflow_sub-out : goal.overflow_sub-out
 overflow_sub-out c = let l = same-long c.loop-i.invariant.put in omega (arith, c.loop-i.invariant.within)
@@ -22,7 +22,7 @@ pub shape_of-out-then-out-at : goal.shape_of-out-then-out-at
 shape_of-out-then-out-at c = same-long c.loop-i.invariant.put
 
 pub returns-then-out-at : goal.returns-then-out-at
-returns-then-out-at c = let l = same-long c.loop-i.invariant.put in stop _ _ _ c.loop-i.invariant (no_room _ _ _ _ c.loop-i-test.true c.if-numbers-i.false (omega (arith, c.if-out-at.true)))
+returns-then-out-at c = let l = same-long c.loop-i.invariant.put in let r = stop _ _ _ c.loop-i.invariant (no_room _ _ _ _ c.loop-i-test.true c.if-numbers-i.false (omega (arith, c.if-out-at.true))) in record { count = r.0; lent = r.1 }
 
 pub put_word-requires : goal.put_word-requires
 put_word-requires c = let l = same-long c.loop-i.invariant.put in omega (arith, c.if-out-at.false, c.loop-i.invariant.within)
@@ -32,7 +32,7 @@ overflow_add-at c = let l = same-long c.loop-i.invariant.put in omega (arith, c.
 
 pub loop-i-preserved : goal.loop-i-preserved
 loop-i-preserved c =
-    let d = c.before.before.before.before.before in
+    let d = c.before in
     let b = d.before.before in
     turn _ _ _ b.loop-i.invariant b.loop-i-test.true b.if-numbers-i.false d.if-out-at.false _ c.put_word.ensures
 
@@ -40,4 +40,4 @@ pub shape_of-out : goal.shape_of-out
 shape_of-out c = same-long c.loop-i.invariant.put
 
 pub returns : goal.returns
-returns c = stop _ _ _ c.loop-i.invariant (no_width _ _ _ _ c.loop-i-test.false)
+returns c = let r = stop _ _ _ c.loop-i.invariant (no_width _ _ _ _ c.loop-i-test.false) in record { count = r.0; lent = r.1 }

@@ -7,7 +7,7 @@ use Rattle.little_endian.proofs.Steps.{no_width, no_number, no_room, Fields, sta
 use Rattle.little_endian.proofs.put_fields.Given as goal
 
 abbrev pub invariant-loop-i : goal.invariant-loop-i
-invariant-loop-i l = Fields l.widths l.numbers l.initial.l.out l.out l.at l.i
+invariant-loop-i l = Fields l.widths l.numbers l.initial.out l.out l.at l.i
 
 abbrev pub decreases-loop-i : goal.decreases-loop-i
 decreases-loop-i l = length l.widths - l.i

@@ -21,7 +21,7 @@ put_word-requires c = omega (arith, c.if-out-at.false, c.if-out-at-lt4.false)
 
 pub returns : goal.returns
 returns c =
-    let d = c.before.before.before.before in
+    let d = c.before in
     let a = d.args in
     let l = length_sample a.sample in
     let room : a.at + length (sample_bytes a.sample) ≤ length a.out.now = omega (arith, d.if-out-at.false, d.if-out-at-lt4.false) in

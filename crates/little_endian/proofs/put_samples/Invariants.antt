@@ -12,7 +12,7 @@ use Rattle.little_endian.proofs.Steps.{no_place, placed}
 use Rattle.little_endian.proofs.put_samples.Given as goal
 
 abbrev pub invariant-loop-i : goal.invariant-loop-i
-invariant-loop-i l = Pieces bytes_of l.samples l.initial.l.out l.at l.out l.to l.i
+invariant-loop-i l = Pieces bytes_of l.samples l.initial.out l.at l.out l.to l.i
 
 abbrev pub decreases-loop-i : goal.decreases-loop-i
 decreases-loop-i l = length l.samples - l.i

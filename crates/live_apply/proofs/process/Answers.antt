@@ -1,5 +1,5 @@
 -- `live_apply::process` meets its contract: a block on the front of the samples.
-use mathlib.Core.Path.{sym}
+use Rattle.std.proofs.Common.{sym}
 use Prim.Native.Nat.{ℕ, ◌*◌}
 use Rattle.event.specs.declared.MixOrder.TheVariants.{Forward}
 use Rattle.sequencer.specs.Rendering.{blocks, block_outs}
@@ -21,7 +21,9 @@ returns c =
     let x = a.samples.now in
     let k = channels_of_lem d c.least-channels.ensures in
     let n = c.least-n.ensures in
-    let t = c.process-answer.ensures in record { engine = lent-engine x (λ (k : ℕ). 64 * k) k n (λ (n : ℕ). blocks Forward a.pool.now a.size n s) a.size 64 t.0; answer = (
-        lent-left x (λ (k : ℕ). 64 * k) k n (λ (n : ℕ). blocks Forward a.pool.now a.size n s) a.kind a.size 64 t.1.1.0 c.sounding.ensures,
-        lent_output x (λ (k : ℕ). 64 * k) k n (block_outs Forward a.pool.now a.size s) t.1.0,
-      ); samples =  }
+    let t = c.process-answer.ensures in
+    record {
+      engine = lent-engine x (λ (k : ℕ). 64 * k) k n (λ (n : ℕ). blocks Forward a.pool.now a.size n s) a.size 64 t.engine;
+      answer = lent-left x (λ (k : ℕ). 64 * k) k n (λ (n : ℕ). blocks Forward a.pool.now a.size n s) a.kind a.size 64 t.answer c.sounding.ensures;
+      samples = lent_output x (λ (k : ℕ). 64 * k) k n (block_outs Forward a.pool.now a.size s) t.samples;
+    }

@@ -1,5 +1,5 @@
 -- `live_apply::tick` meets its contract: a tick on the front of the samples.
-use mathlib.Core.Path.{sym}
+use Rattle.std.proofs.Common.{sym}
 use Prim.Native.Nat.{ℕ}
 use Rattle.event.specs.declared.MixOrder.TheVariants.{Forward}
 use Rattle.sequencer.specs.Rendering.{ticks, tick_outs}
@@ -21,7 +21,9 @@ returns c =
     let x = a.samples.now in
     let k = channels_of_lem d c.least-channels.ensures in
     let n = c.least-n.ensures in
-    let t = c.tick-answer.ensures in record { engine = lent-engine x (λ (k : ℕ). k) k n (λ (n : ℕ). ticks Forward a.pool.now n s) 1 1 t.0; answer = (
-        lent-left x (λ (k : ℕ). k) k n (λ (n : ℕ). ticks Forward a.pool.now n s) a.kind 1 1 t.1.1.0 c.sounding.ensures,
-        lent_output x (λ (k : ℕ). k) k n (tick_outs Forward a.pool.now s) t.1.0,
-      ); samples =  }
+    let t = c.tick-answer.ensures in
+    record {
+      engine = lent-engine x (λ (k : ℕ). k) k n (λ (n : ℕ). ticks Forward a.pool.now n s) 1 1 t.engine;
+      answer = lent-left x (λ (k : ℕ). k) k n (λ (n : ℕ). ticks Forward a.pool.now n s) a.kind 1 1 t.answer c.sounding.ensures;
+      samples = lent_output x (λ (k : ℕ). k) k n (tick_outs Forward a.pool.now s) t.samples;
+    }

@@ -16,8 +16,8 @@ returns c =
     let pool = a.pool.now in
     let n = a.z - a.s in
     let run = gained a.gain (next_samples pool u n) in
-    let there : n ≤ length (drop a.s l) = simp length-drop (omega (arith, p.0, p.1)) in
+    let there : n ≤ length (drop a.s l) = simp length-drop (omega (arith, p.fact_1, p.fact_2)) in
     let long : length (take n (drop a.s l)) ≡ n = length-take-le n (drop a.s l) there in
     let runs : length run ≡ n = length-map (next_samples pool u n) (λ x. x ×ˢ a.gain) ∙ length_made (sample_of pool) advanced u n in
-    let inside : a.s + length run ≤ length l = omega (arith, runs, p.0, p.1) in
+    let inside : a.s + length run ≤ length l = omega (arith, runs, p.fact_1, p.fact_2) in
     (rw (c.add_source.ensures.1, long), rw (c.add_source.ensures.0, long) (rw runs at (add-inside a.s run l inside)))

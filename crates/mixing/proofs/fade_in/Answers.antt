@@ -8,14 +8,7 @@ use Rattle.mixing.proofs.fade_in.Goals as goal
 pub returns-then-top-span : goal.returns-then-top-span
 unfolding run_faded_in of_bits
 returns-then-top-span c =
-    let at-fade = c.before.before in
-    let at-phase-step = at-fade.before.before in
-    let at-phase-at = at-phase-step.before in
-    let at-minus = at-phase-at.before in
-    let at-fade-in-place = at-minus.before in
-    let at-if2 = at-fade-in-place.before in
-    let at-if1 = at-if2.before.before in
-    rw (at-if1.if-event.true, at-if2.if-top-span.true, ← ap (λ (q : Place). q.at) at-fade-in-place.fade_in_place-place.ensures, ← at-minus.minus-to.ensures, ← at-phase-at.phase_at-phase.ensures, ← at-phase-step.phase_step-step.ensures) at-fade.fade.ensures
+    rw (c.if-event.true, c.if-top-span.true, ← ap (λ (q : Place). q.at) c.fade_in_place-place.ensures, ← c.minus-to.ensures, ← c.phase_at-phase.ensures, ← c.phase_step-step.ensures) c.fade.ensures
 
 pub returns-else-top-span : goal.returns-else-top-span
 unfolding run_faded_in of_bits

@@ -7,5 +7,4 @@ use Rattle.mixing.proofs.phase_at.Goals as goal
 pub returns : goal.returns
 unfolding phase_at
 returns c =
-    let n = c.before.before.before.before in
-    rw (whole_is n.args.i, ← n.nearest_u64_to_f64.ensures, ← c.delerp.ensures) c.narrow.ensures
+    rw (whole_is c.args.i, ← c.nearest_u64_to_f64.ensures, ← c.delerp.ensures) c.narrow.ensures

@@ -5,7 +5,7 @@ use Rattle.event.specs.declared.Source.{Source}
 use Rattle.event.specs.Sources.{advanced_by}
 use Rattle.event.specs.SourceStays.{source_stays}
 use Rattle.ledger.specs.BlockSamples.{channel_after, after_block}
-use Rattle.ledger.specs.WithinBlock.{end_within}
+use Rattle.ledger.proofs.WithinBlock.{end_within}
 use Rattle.mixing.specs.declared.Place.{Place}
 use Rattle.mixing.specs.Blocks.{as_span}
 use Rattle.mixing.specs.Placed.{fades_in, fades_out}
@@ -28,41 +28,28 @@ add_plain-after-requires c =
 pub returns-then-is_plain : goal.returns-then-is_plain
 unfolding channel_after after_block
 returns-then-is_plain c =
-    let at-add-plain = c.before.before in
-    let at-if2 = at-add-plain.before.before in
-    let at-is-plain = at-if2.before in
-    let at-if1 = at-is-plain.before in
-    let at-end-place = at-if1.before.before in
-    let at-first-place = at-end-place.before in
-    let start = at-first-place.before.before.before in
-    let a = start.args in
+    let a = c.args in
     let b = as_span a.span in
     let e = a.event in
-    let first = ap (λ (q : Place). q.at) at-first-place.first_place-first.ensures in
-    let end = ap (λ (q : Place). q.at) at-end-place.end_place-end.ensures in
-    let s = at-first-place.first_place-first.result.at in
-    let z = at-end-place.end_place-end.result.at in
-    let k = is_plain (leb z (length a.channel.now)) (fades_in b e || fades_out b e) (sym at-is-plain.is_plain.ensures ∙ at-if2.if-is_plain.true) in
-    let test = lt-ltb s z at-if1.if-s-z.true in
-    (rw (← first, ← end, test) (moved_on e.unit (z - s) at-add-plain.add_plain-after.result at-add-plain.add_plain-after.ensures.0), rw (← first, ← end, test, plain-run b e k.1 a.pool.now s z) at-add-plain.add_plain-after.ensures.1)
+    let first = ap (λ (q : Place). q.at) c.first_place-first.ensures in
+    let end = ap (λ (q : Place). q.at) c.end_place-end.ensures in
+    let s = c.first_place-first.result.at in
+    let z = c.end_place-end.result.at in
+    let k = is_plain (leb z (length a.channel.now)) (fades_in b e || fades_out b e) (sym c.is_plain.ensures ∙ c.if-is_plain.true) in
+    let test = lt-ltb s z c.if-s-z.true in
+    (rw (← first, ← end, test) (moved_on e.unit (z - s) c.add_plain-after.result c.add_plain-after.ensures.0), rw (← first, ← end, test, plain-run b e k.1 a.pool.now s z) c.add_plain-after.ensures.1)
 
 pub slice_bounds-row-end : goal.slice_bounds-row-end
 slice_bounds-row-end c =
-    let at-end-place = c.before.before.before.before in
-    let start = at-end-place.before.before.before.before in
-    omega (arith, end_within (as_span start.args.span) start.args.event, ap (λ (q : Place). q.at) at-end-place.end_place-end.ensures)
+    omega (arith, end_within (as_span c.args.span) c.args.event, ap (λ (q : Place). q.at) c.end_place-end.ensures)
 
 pub returns-then-s-z : goal.returns-then-s-z
 unfolding channel_after after_block
 returns-then-s-z c =
-    let at-add-run = c.before.before.before in
-    let at-if1 = at-add-run.before.before.before.before.before in
-    let at-end-place = at-if1.before.before in
-    let at-first-place = at-end-place.before in
-    let first = ap (λ (q : Place). q.at) at-first-place.first_place-first.ensures in
-    let end = ap (λ (q : Place). q.at) at-end-place.end_place-end.ensures in
-    let test = lt-ltb at-first-place.first_place-first.result.at at-end-place.end_place-end.result.at at-if1.if-s-z.true in
-    (rw (← first, ← end, test) at-add-run.add_run.ensures.0, rw (← first, ← end, test) at-add-run.add_run.ensures.1)
+    let first = ap (λ (q : Place). q.at) c.first_place-first.ensures in
+    let end = ap (λ (q : Place). q.at) c.end_place-end.ensures in
+    let test = lt-ltb c.first_place-first.result.at c.end_place-end.result.at c.if-s-z.true in
+    (rw (← first, ← end, test) c.add_run.ensures.0, rw (← first, ← end, test) c.add_run.ensures.1)
 
 pub returns : goal.returns
 unfolding channel_after after_block

@@ -1,17 +1,27 @@
 -- `overlap::clips` meets its contract: refused for the stretch, for the slice, or carried out. Assumes nothing.
 use mathlib.Core.Path.{◌≡◌, refl, sym, ap, ◌∙◌}
 use borrow.Author.Tests.{not-true, not-false}
+use Rattle.memory.specs.Memory.{cells_of, engine_of}
+use Rattle.overlap.specs.Reading.{held_in}
 use Rattle.overlap.proofs.Listing.{no_stretch, no_slice, all_well}
 use borrow.Author.Rules.{rules}
 use Rattle.overlap.proofs.clips.Goals as goal
 
 pub returns-then-not-from-to : goal.returns-then-not-from-to
-returns-then-not-from-to c = no_stretch _ _ _ _ (not-true _ c.if-not-from-to.true-raw)
+returns-then-not-from-to c =
+    let a = c.args in
+    let r = no_stretch a.from a.to a.out.now (held_in (engine_of (cells_of a.times.now a.levels.now a.marks.now a.numbers.now))) c.if-not-from-to.true in
+    record { answer = r.0; lent = r.1 }
 
 pub returns-then-out-ne256 : goal.returns-then-out-ne256
-returns-then-out-ne256 c = no_slice _ _ _ _ c.if-out-ne256.true
+returns-then-out-ne256 c =
+    let a = c.args in
+    let r = no_slice a.from a.to a.out.now (held_in (engine_of (cells_of a.times.now a.levels.now a.marks.now a.numbers.now))) c.if-out-ne256.true in
+    record { answer = r.0; lent = r.1 }
 
 pub returns : goal.returns
 returns c =
-    let d = c.before.before.before.before in
-    all_well _ _ _ _ (not-false _ d.if-not-from-to.false-raw) d.if-out-ne256.false _ _ d.list_clips-count.ensures.counted d.list_clips-count.ensures.listed
+    let a = c.args in
+    let r = all_well a.from a.to a.out.now (held_in (engine_of (cells_of a.times.now a.levels.now a.marks.now a.numbers.now)))
+        c.if-not-from-to.false c.if-out-ne256.false _ _ c.list_clips-count.ensures.counted c.list_clips-count.ensures.listed in
+    record { answer = r.0; lent = r.1 }

@@ -14,14 +14,13 @@ loop-k-init c = (omega arith, refl, refl, refl, draining_start _ _ _ (rw (length
 
 pub loop-k-preserved : goal.loop-k-preserved
 loop-k-preserved c =
-    let d = c.before.before.before.before in
-    let l = d.loop-k in
-    let p = d.requires in (
+    let l = c.loop-k in
+    let p = c.requires in (
       omega arith,
       search rules,
       search rules,
       search rules,
-      draining_turn _ _ _ _ _ _ _ _ (omega (arith, p.has)) (omega (arith, p.room)) (ap number_of_key (sym (get_or-pairs _ _ 0 (omega (arith, p.long))))) d.sift_down.ensures l.invariant.4,
+      draining_turn _ _ _ _ _ _ _ _ (omega (arith, p.has)) (omega (arith, p.room)) (ap number_of_key (sym (get_or-pairs _ _ 0 (omega (arith, p.long))))) c.sift_down.ensures l.invariant.4,
     )
 
 pub returns : goal.returns

@@ -10,7 +10,7 @@ use Rattle.overlap.proofs.Draining.{Draining, draining_start, draining_turn, dra
 use Rattle.overlap.proofs.drain_sorted.Given as goal
 
 abbrev pub invariant-loop-k : goal.invariant-loop-k
-invariant-loop-k l = (l.k ≤ l.n) × (length l.starts ≡ length l.initial.l.starts) × (length l.numbers ≡ length l.initial.l.numbers) × (length l.out ≡ length l.initial.l.out) × Draining (pairs l.initial.l.starts l.initial.l.numbers) l.count l.initial.l.out l.k (pairs l.starts l.numbers) l.out
+invariant-loop-k l = (l.k ≤ l.n) × (length l.starts ≡ length l.initial.starts) × (length l.numbers ≡ length l.initial.numbers) × (length l.out ≡ length l.initial.out) × Draining (pairs l.initial.starts l.initial.numbers) l.count l.initial.out l.k (pairs l.starts l.numbers) l.out
 
 abbrev pub decreases-loop-k : goal.decreases-loop-k
 decreases-loop-k l = l.n - l.k

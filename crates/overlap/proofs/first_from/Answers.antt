@@ -13,10 +13,10 @@ use Rattle.overlap.specs.Stretch.{starts_from}
 use Rattle.overlap.proofs.Gathering.{sized_engine, count_waits}
 use Rattle.overlap.proofs.Scanning.{Best, seen, none_seen, out, sooner_in, later_in, only_in, nan_refused, some_first, no_first, heap_at}
 use Rattle.overlap.proofs.first_from.Goals as goal
-use Rattle.overlap.proofs.first_from.Goals.{Joined-time-event}
+use Rattle.overlap.proofs.first_from.Goals.{Joined-time-event, then-time-event+then-found+then-precedes, then-time-event+then-found+else-precedes, then-time-event+else-found, else-time-event}
 use Rattle.overlap.proofs.first_from.Invariants.{heap}
 
-found-again : (c : Joined-time-event invariant-loop decreases-loop) → (let l = c.loop-i in
+found-again : (c : Joined-time-event) → (let l = c.loop-i in
     let a = c.args in
     Best c.if-time-event.found c.if-time-event.first (seen (starts_from a.time) (heap (cells_of a.times.now a.levels.now a.marks.now a.numbers.now)) (l.i + 1)))
 found-again c =
@@ -27,10 +27,16 @@ found-again c =
     let xs = heap cells in
     let p = starts_from a.time in
     let h = heap_at cells _ l.i _ v.2 c.loop-i-test.true c.event_at-event.ensures in
-    ⊎_elim (λ w. rw (w.4, w.5) (rw w.1.taken (sooner_in p xs l.i _ h.0 h.1 l.found l.first w.0.taken w.1.taken (sym w.2.ensures ∙ w.3.taken) v.3)))
-    (⊎_elim (λ w. rw (w.4, w.5) (rw w.1.taken (later_in p xs l.i _ h.0 h.1 l.found l.first w.0.taken w.1.taken (sym w.2.ensures ∙ w.3.left) v.3)))
-    (⊎_elim (λ w. rw (w.2, w.3) (only_in p xs l.i _ h.0 h.1 l.found l.first w.0.taken w.1.left v.3))
-    (λ w. rw (w.1, w.2) (out p xs l.i _ h.0 h.1 l.found l.first w.0.left v.3)))) c.if-time-event.branch
+    elim c.if-time-event.branch [
+      then-time-event+then-found+then-precedes w ↦
+        rw (w.found-is, w.first-is)
+        (rw w.if-found.true (sooner_in p xs l.i _ h.0 h.1 l.found l.first w.if-time-event.true w.if-found.true (sym w.precedes.ensures ∙ w.if-precedes.true) v.3))
+    | then-time-event+then-found+else-precedes w ↦
+        rw (w.found-is, w.first-is)
+        (rw w.if-found.true (later_in p xs l.i _ h.0 h.1 l.found l.first w.if-time-event.true w.if-found.true (sym w.precedes.ensures ∙ w.if-precedes.false) v.3))
+    | then-time-event+else-found w ↦ rw (w.found-is, w.first-is) (only_in p xs l.i _ h.0 h.1 l.found l.first w.if-time-event.true w.if-found.false v.3)
+    | else-time-event w ↦ rw (w.found-is, w.first-is) (out p xs l.i _ h.0 h.1 l.found l.first w.if-time-event.false v.3)
+    ]
 
 pub returns-then-time : goal.returns-then-time
 returns-then-time c = nan_refused _ _ c.if-time.true

@@ -16,9 +16,9 @@ use Rattle.overlap.specs.Keys.{Key, key_less, no_key, pairs, length_pairs}
 use Rattle.overlap.specs.Reading.{held_in}
 use Rattle.overlap.proofs.Gathering.{Gathering, gathering_start, gathering_in, gathering_out, gathering_done, Ends, held-length, sized_engine, ends_read, asked-at}
 use Rattle.overlap.proofs.gather.Goals as goal
-use Rattle.overlap.proofs.gather.Goals.{Joined-overlaps}
+use Rattle.overlap.proofs.gather.Goals.{Joined-overlaps, then-overlaps, else-overlaps}
 
-gathered : (c : Joined-overlaps invariant-loop decreases-loop) → (let l = c.loop-i in
+gathered : (c : Joined-overlaps) → (let l = c.loop-i in
     let a = c.args in
     (length c.if-overlaps.starts ≡ 768) × (length c.if-overlaps.ids ≡ 768)
     × Gathering (in_stretch a.from a.to) (held_in (engine_of (cells_of a.times.now a.levels.now a.marks.now a.numbers.now))) (l.i + 1) c.if-overlaps.count (pairs c.if-overlaps.starts c.if-overlaps.ids))
@@ -30,21 +30,19 @@ gathered c =
     let a = c.args in
     let cells = cells_of a.times.now a.levels.now a.marks.now a.numbers.now in
     let h : l.i < length (held_in (engine_of cells)) = rw (held-length (engine_of cells) (sized_engine cells) _ _ _ v.0) c.loop-i-test.true in
-    let same : length l.starts ≡ length l.ids = omega arith in
-    ⊎_elim
-    (λ w. (
-      omega (arith, ap length w.10),
-      omega (arith, ap length w.11),
-      rw w.12
-          (gathering_in _ _ l.i l.count (pairs l.starts l.ids) event h e v.5 _ (sym c.overlaps.ensures ∙ w.0.taken) (rw (length_pairs l.starts l.ids same) (omega arith))
-          (ap₂ pairs w.10 w.11 ∙ w.5.ensures ∙ ap₂ (λ (x : Float) (k : ℕ). rise key_less no_key l.count (pairs l.starts l.ids) l.count (x, k)) w.3.ensures w.4.ensures)),
-    ))
-    (λ w. (
-      omega (arith, ap length w.1),
-      omega (arith, ap length w.2),
-      rw (w.1, w.2, w.3) (gathering_out _ _ l.i l.count (pairs l.starts l.ids) event h e v.5 (sym c.overlaps.ensures ∙ w.0.left)),
-    ))
-    c.if-overlaps.branch
+    let same : length l.starts ≡ length l.ids = omega arith in (
+      omega arith,
+      omega arith,
+      elim c.if-overlaps.branch [
+        then-overlaps w ↦
+          rw w.count-is
+          (gathering_in _ _ l.i l.count (pairs l.starts l.ids) event h e v.5 _ (sym c.overlaps.ensures ∙ w.if-overlaps.true) (rw (length_pairs l.starts l.ids same) (omega arith))
+          (ap₂ pairs w.starts-is w.ids-is ∙ w.sift_up.ensures
+          ∙ ap₂ (λ (x : Float) (k : ℕ). rise key_less no_key l.count (pairs l.starts l.ids) l.count (x, k)) w.start_of.ensures w.number_of.ensures))
+      | else-overlaps w ↦
+          rw (w.starts-is, w.ids-is, w.count-is) (gathering_out _ _ l.i l.count (pairs l.starts l.ids) event h e v.5 (sym c.overlaps.ensures ∙ w.if-overlaps.false))
+      ],
+    )
 
 closer : (h i : ℕ) → i < h → h - (i + 1) < h - i
 closer h i p = omega arith
@@ -57,16 +55,15 @@ overflow_add-held c = omega (arith, c.least-waiting.ensures, c.least.ensures, c.
 
 pub loop-i-init : goal.loop-i-init
 loop-i-init c =
-    let s = c.before.before.before.before.before.before.before.before in
-    let a = s.args in
+    let a = c.args in
     let waiting = c.least-waiting.ensures in
     let sounding = c.least.ensures in
     let finished = c.least-2.ensures in (
       ends_read (cells_of a.times.now a.levels.now a.marks.now a.numbers.now) _ _ _ waiting sounding finished,
       omega (arith, waiting, sounding, finished),
       omega arith,
-      s.requires.0,
-      s.requires.1,
+      c.requires.fact_1,
+      c.requires.fact_2,
       gathering_start _ _ _,
     )
 
@@ -75,7 +72,7 @@ held_event-event-requires c =
     let a = c.args in
     let e = c.loop-i.invariant.0 in
     let r = asked-at (cells_of a.times.now a.levels.now a.marks.now a.numbers.now) _ _ _ _ e c.loop-i-test.true in
-    (e.waiting, (r.0, r.1))
+    record { fact_1 = e.waiting; fact_2 = r.0; fact_3 = r.1 }
 
 pub loop-i-smaller : goal.loop-i-smaller
 loop-i-smaller c = closer _ _ c.loop-i-test.true

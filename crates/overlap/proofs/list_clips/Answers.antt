@@ -12,6 +12,5 @@ drain_sorted-requires c = drainable _ _ _ _ _ _ (search rules) (search rules) (s
 
 pub returns : goal.returns
 returns c =
-    let d = c.before.before.before.before.before.before in
-    let g = d.gather-count.ensures in
-    record { counted = counted _ _ _ _ _ g; listed = d.drain_sorted.ensures ∙ listed _ _ _ _ _ g _ _ d.least.ensures }
+    let g = c.gather-count.ensures in
+    record { counted = counted _ _ _ _ _ g; listed = c.drain_sorted.ensures ∙ listed _ _ _ _ _ g _ _ c.least.ensures }

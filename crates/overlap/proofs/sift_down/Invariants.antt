@@ -12,8 +12,8 @@ use Rattle.overlap.proofs.sift_down.Given as goal
 
 abbrev pub invariant-loop-i : goal.invariant-loop-i
 invariant-loop-i l =
-    (l.i ≤ l.m) × (l.m < length l.starts) × (length l.starts ≡ length l.initial.l.starts) × (length l.starts ≡ length l.numbers) × (length l.numbers ≡ length l.initial.l.numbers) ×
-    Sinking key_less no_key (pairs l.starts l.numbers) l.m l.i (l.start, l.number) (sink key_less no_key l.m (pairs l.initial.l.starts l.initial.l.numbers) l.m 0 (l.start, l.number))
+    (l.i ≤ l.m) × (l.m < length l.starts) × (length l.starts ≡ length l.initial.starts) × (length l.starts ≡ length l.numbers) × (length l.numbers ≡ length l.initial.numbers) ×
+    Sinking key_less no_key (pairs l.starts l.numbers) l.m l.i (l.start, l.number) (sink key_less no_key l.m (pairs l.initial.starts l.initial.numbers) l.m 0 (l.start, l.number))
 
 abbrev pub decreases-loop-i : goal.decreases-loop-i
 decreases-loop-i l = l.m - l.i

@@ -11,9 +11,10 @@ use Rattle.overlap.specs.Keys.{key_less, no_key, pairs}
 use Rattle.ready.specs.Rounds.{Rising}
 use Rattle.overlap.proofs.Sifting.{up_on, up_root, up_stop}
 use Rattle.overlap.proofs.sift_up.Goals as goal
+use Rattle.overlap.proofs.sift_up.Goals.{else-loop-i-test, then-loop-i-test+then-not-is_sooner}
 
 pub loop-i-init : goal.loop-i-init
-loop-i-init c = (search rules, refl, c.requires.1, refl, record { fuel = c.args.n; enough = omega arith; gives = refl })
+loop-i-init c = (search rules, refl, c.requires.fact_2, refl, record { fuel = c.args.n; enough = omega arith; gives = refl })
 
 pub loop-i-preserved : goal.loop-i-preserved
 loop-i-preserved c =
@@ -23,10 +24,13 @@ loop-i-preserved c =
       simp length-set v.1,
       simp length-set v.2,
       simp length-set v.3,
-      up_on _ _ v.2 _ _ _ c.loop-i-test.true (sym c.is_sooner.ensures ∙ not-false _ c.if-not-is_sooner.false-raw) v.4,
+      up_on _ _ v.2 _ _ _ c.loop-i-test.true (sym c.is_sooner.ensures ∙ c.if-not-is_sooner.false) v.4,
     )
 
 pub returns : goal.returns
 returns c =
     let v = c.loop-i.invariant in
-    ⊎_elim (λ w. up_root _ _ v.2 _ _ _ w.left v.4) (λ w. up_stop _ _ v.2 _ _ _ (sym w.3.ensures ∙ not-true _ w.4.taken) v.4) c.loop-i-test.branch
+    elim c.loop-i-test.branch [
+      else-loop-i-test w ↦ up_root _ _ v.2 _ _ _ w.loop-i-test.false v.4
+    | then-loop-i-test+then-not-is_sooner w ↦ up_stop _ _ v.2 _ _ _ (sym w.is_sooner.ensures ∙ w.if-not-is_sooner.true) v.4
+    ]

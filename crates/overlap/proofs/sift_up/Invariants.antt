@@ -14,8 +14,8 @@ use Rattle.overlap.proofs.sift_up.Given as goal
 
 abbrev pub invariant-loop-i : goal.invariant-loop-i
 invariant-loop-i l =
-    (l.i ≤ l.n) × (length l.starts ≡ length l.initial.l.starts) × (length l.starts ≡ length l.numbers) × (length l.numbers ≡ length l.initial.l.numbers) ×
-    Rising key_less no_key (pairs l.starts l.numbers) l.i (l.start, l.number) (rise key_less no_key l.n (pairs l.initial.l.starts l.initial.l.numbers) l.n (l.start, l.number))
+    (l.i ≤ l.n) × (length l.starts ≡ length l.initial.starts) × (length l.starts ≡ length l.numbers) × (length l.numbers ≡ length l.initial.numbers) ×
+    Rising key_less no_key (pairs l.starts l.numbers) l.i (l.start, l.number) (rise key_less no_key l.n (pairs l.initial.starts l.initial.numbers) l.n (l.start, l.number))
 
 abbrev pub decreases-loop-i : goal.decreases-loop-i
 decreases-loop-i l = l.i

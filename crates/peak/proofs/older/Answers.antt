@@ -1,5 +1,5 @@
 use mathlib.Core.Path.{sym}
-use Rattle.peak.specs.Turns.{past_row, turned_older, unturned_older}
+use Rattle.peak.proofs.Turns.{past_row, turned_older, unturned_older}
 use borrow.Author.Rules.{rules}
 use Rattle.peak.proofs.older.Goals as goal
 

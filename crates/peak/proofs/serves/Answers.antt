@@ -1,5 +1,5 @@
 use mathlib.Core.Path.{sym}
-use Rattle.peak.specs.Turns.{misplaced, narrow, wide}
+use Rattle.peak.proofs.Turns.{misplaced, narrow, wide}
 use Rattle.peak.proofs.serves.Goals as goal
 
 pub returns-then-p : goal.returns-then-p

@@ -1,25 +1,17 @@
 -- `plain_engine::edits` meets its contract.
-use mathlib.Core.Path.{◌≡◌, refl, sym, ap, ◌∙◌}
-use Prim.Native.Nat.{ℕ, ◌+◌, ◌-◌, ◌≤◌, ◌<◌}
-use native.Mathlib.Omega.{arith}
-use borrow.Author.Rules.{rules}
-use Rattle.memory.specs.Memory.{Cells, cells_of, event_at, id_at, edit_at}
-use Rattle.plain_engine.proofs.Reading.{Filled, filled, fills, all-filled, edit-at}
+use Rattle.std.proofs.Common.{refl}
+use Rattle.memory.specs.Memory.{cells_of, edit_at}
+use Rattle.plain_engine.proofs.Reading.{filled, fills, all-filled, edit-at}
 use Rattle.plain_engine.proofs.edits.Goals as goal
-use Rattle.plain_engine.proofs.edits.Goals.{Start}
-
--- a need, or a place in the function, with these
-abbrev With : (tie.invariant-loop → tie.decreases-loop → Type 0) → Type 0
-With f = f invariant-loop decreases-loop
-
-abbrev cells : With Start → Cells
-cells c = cells_of c.args.times.now c.args.levels.now c.args.marks.now c.args.numbers.now
 
 pub loop-i-init : goal.loop-i-init
 loop-i-init c = filled _ _ 256 _ refl
 
 pub loop-i-preserved : goal.loop-i-preserved
-loop-i-preserved c = fills (edit_at (cells c.before.before.before.before.before)) 1024 256 _ _ _ c.loop-i-test.true (edit-at (cells c.before.before.before.before.before) c.loop-i.i) c.loop-i.invariant
+loop-i-preserved c =
+    let a = c.args in
+    let cells = cells_of a.times.now a.levels.now a.marks.now a.numbers.now in
+    fills (edit_at cells) 1024 256 _ _ _ c.loop-i-test.true (edit-at cells c.loop-i.i) c.loop-i.invariant
 
 pub returns : goal.returns
 returns c = all-filled _ _ 256 _ _ c.loop-i-test.false c.loop-i.invariant

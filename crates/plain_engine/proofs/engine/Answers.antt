@@ -9,4 +9,4 @@ pub returns : goal.returns
 returns c =
     let a = c.args in
     whole (cells_of a.times.now a.levels.now a.marks.now a.numbers.now) c.events-ready.ensures c.events-active.ensures c.events-past.ensures
-    c.index-active_map.ensures c.edits-items.ensures c.Mode-of.ensures
+    c.index-active_map.ensures c.edits-items.ensures c.mode_of-mode.ensures

@@ -1,10 +1,7 @@
 -- `plain_engine::index` meets its contract.
-use mathlib.Core.Path.{◌≡◌, refl, sym, ap, ◌∙◌}
-use Prim.Native.Nat.{ℕ, ◌+◌, ◌-◌, ◌≤◌, ◌<◌}
-use native.Mathlib.Omega.{arith}
-use borrow.Author.Rules.{rules}
-use Rattle.memory.specs.Memory.{Cells, cells_of, event_at, id_at, edit_at}
-use Rattle.plain_engine.proofs.Reading.{Filled, filled, fills, all-filled}
+use Rattle.std.proofs.Common.{◌-◌}
+use Rattle.memory.specs.Memory.{cells_of, id_at}
+use Rattle.plain_engine.proofs.Reading.{Filled}
 use Rattle.plain_engine.proofs.index.Given as goal
 
 abbrev pub invariant-loop-i : goal.invariant-loop-i

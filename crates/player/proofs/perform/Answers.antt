@@ -10,13 +10,10 @@ pub returns : goal.returns
 returns c =
     let a = c.args in
     let s = engine_of (cells_of a.times.now a.levels.now a.marks.now a.numbers.now) in
-    let g = c.carry-out.ensures in (
-      g.0,
-      (
-        g.1.1,
-        (
-          ap (λ (l : Left). l.refusal) g.1.0,
-          puts a.form a.kind a.pool.now s a.call a.samples.now g.0 g.1.0 g.1.1 c.counts.ensures a.out.now a.at c.leave-used.ensures.stands,
-        ),
-      ),
-    )
+    let g = c.carry_out-left.ensures in
+    record {
+      engine = g.engine;
+      samples = g.samples;
+      refusal = ap (λ (l : Left). l.refusal) g.answer;
+      out = puts a.form a.kind a.pool.now s a.call a.samples.now g.engine g.answer g.samples c.counts-counts.ensures a.out.now a.at c.leave-used.ensures.stands;
+    }

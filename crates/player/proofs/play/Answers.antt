@@ -17,7 +17,8 @@ returns c =
     let out = a.out.now in
     let n = c.run-p.result.used in
     let e = c.start.ensures in
-    let g = c.run-p.ensures in (
-      ap (λ (p : Played). p.used) g.1.0 ∙ ap (λ (s : Sequencer). length (ran Bytes a.pool.now a.tape.now true s (record { at = 0; first = true }) (length out)).written) e,
-      g.1.1 ∙ ap (λ (s : Sequencer). (ran Bytes a.pool.now a.tape.now true s (record { at = 0; first = true }) (length out)).written ++ drop n out) e,
-    )
+    let g = c.run-p.ensures in
+    record {
+      value = ap (λ (p : Played). p.used) g.answer ∙ ap (λ (s : Sequencer). length (ran Bytes a.pool.now a.tape.now true s (record { at = 0; first = true }) (length out)).written) e;
+      out_after = g.lent ∙ ap (λ (s : Sequencer). (ran Bytes a.pool.now a.tape.now true s (record { at = 0; first = true }) (length out)).written ++ drop n out) e;
+    }

@@ -20,7 +20,7 @@ use Rattle.player.proofs.run.Given as goal
 
 abbrev pub invariant-loop-form : goal.invariant-loop-form
 invariant-loop-form l =
-    Rolling l.form l.pool l.tape l.whole (engine_of (cells_of l.initial.l.times l.initial.l.levels l.initial.l.marks l.initial.l.numbers)) l.initial.l.cursor l.initial.l.out l.out (engine_of (cells_of l.times l.levels l.marks l.numbers)) l.cursor l.samples l.at
+    Rolling l.form l.pool l.tape l.whole (engine_of (cells_of l.initial.times l.initial.levels l.initial.marks l.initial.numbers)) l.initial.cursor l.initial.out l.out (engine_of (cells_of l.times l.levels l.marks l.numbers)) l.cursor l.samples l.at
 
 abbrev pub decreases-loop-form : goal.decreases-loop-form
 decreases-loop-form l = length l.tape - l.cursor.at

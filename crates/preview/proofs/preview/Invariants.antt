@@ -12,7 +12,7 @@ use Rattle.runs.specs.Turns.{Turns, start, turn, done}
 use Rattle.preview.proofs.preview.Given as goal
 
 abbrev pub invariant-loop-i : goal.invariant-loop-i
-invariant-loop-i l = Turns (λ j a. a ×ˢ gain_at l.gains l.rising j) (λ j. j + 1) l.first l.initial.l.run l.i (l.first + l.i) l.run
+invariant-loop-i l = Turns (λ j a. a ×ˢ gain_at l.gains l.rising j) (λ j. j + 1) l.first l.initial.run l.i (l.first + l.i) l.run
 
 abbrev pub decreases-loop-i : goal.decreases-loop-i
-decreases-loop-i l = length l.initial.l.run - l.i
+decreases-loop-i l = length l.initial.run - l.i

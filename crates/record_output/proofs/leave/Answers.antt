@@ -17,7 +17,7 @@ use Rattle.record_output.proofs.leave.Goals as goal
 pub returns-then-not-left : goal.returns-then-not-left
 returns-then-not-left c =
     let a = c.args in
-    both a.form a.left a.counts a.row.now (search rules, (search rules, (search rules, (search rules, search rules)))) a.out.now a.at (left-none a.form a.left a.counts a.row.now a.out.now a.at (not-true _ c.if-not-left.true))
+    let r = both a.form a.left a.counts a.row.now (search rules, (search rules, (search rules, (search rules, search rules)))) a.out.now a.at (left-none a.form a.left a.counts a.row.now a.out.now a.at (not-true _ c.if-not-left.true)) in record { result_after = r.0; stands = r.1 }
 
 pub slice_bounds-put_channels-end : goal.slice_bounds-put_channels-end
 slice_bounds-put_channels-end c = omega (arith, c.least-n.ensures)
@@ -28,15 +28,15 @@ slice_bounds-put_lines-end c = omega (arith, c.least-n.ensures)
 pub returns-in-Bytes : goal.returns-in-Bytes
 returns-in-Bytes c =
     let a = c.args in
-    both a.form a.left a.counts a.row.now (search rules, (search rules, (search rules, (search rules, search rules)))) a.out.now a.at
+    let r = both a.form a.left a.counts a.row.now (search rules, (search rules, (search rules, (search rules, search rules)))) a.out.now a.at
     (c.put_channels.ensures ∙ ap (λ (x : List Float). add_all (replicate a.left.channels (bytes_of x)) (text a.out.now a.at)) (take-least a.left.each a.row.now c.least-n.ensures)
-    ∙ left_as a.form a.left a.counts a.row.now a.out.now a.at c.in-Bytes.is (not-false _ c.if-not-left.false))
+    ∙ left_as a.form a.left a.counts a.row.now a.out.now a.at c.in-Bytes.is (not-false _ c.if-not-left.false)) in record { result_after = r.0; stands = r.1 }
 
 pub returns-in-Lines : goal.returns-in-Lines
 returns-in-Lines c =
     let a = c.args in
     let line = record_line a.left.kind a.left.refusal a.counts in
-    both a.form a.left a.counts a.row.now (search rules, (search rules, (search rules, (search rules, search rules)))) a.out.now a.at
+    let r = both a.form a.left a.counts a.row.now (search rules, (search rules, (search rules, (search rules, search rules)))) a.out.now a.at
     (c.put_lines.ensures ∙ (λ i. add_all (replicate a.left.channels (samples_line (take-least a.left.each a.row.now c.least-n.ensures i))) (c.put_counts-to.ensures i))
     ∙ add-one_piece line (replicate a.left.channels (samples_line (take a.left.each a.row.now))) (text a.out.now a.at)
-    ∙ left_as a.form a.left a.counts a.row.now a.out.now a.at c.in-Lines.is (not-false _ c.if-not-left.false))
+    ∙ left_as a.form a.left a.counts a.row.now a.out.now a.at c.in-Lines.is (not-false _ c.if-not-left.false)) in record { result_after = r.0; stands = r.1 }

@@ -10,8 +10,7 @@ loop-left-init c = refl
 
 pub loop-left-preserved : goal.loop-left-preserved
 loop-left-preserved c =
-    let c₁ = c.before.before.before.before.before.before.before.before in
-    turn (bytes_of c₁.args.row.now) c₁.args.channels c₁.args.out.now c₁.args.at c.loop-left.out c.loop-left.to c.loop-left.left
+    turn (bytes_of c.args.row.now) c.args.channels c.args.out.now c.args.at c.loop-left.out c.loop-left.to c.loop-left.left
     c.loop-left.invariant c.loop-left-test.true c.put_samples-to.ensures
 
 pub shape_of-out : goal.shape_of-out

@@ -6,7 +6,7 @@ use mathlib.Core.Path.{refl}
 use Rattle.record_output.proofs.put_channels.Given as goal
 
 abbrev pub invariant-loop-left : goal.invariant-loop-left
-invariant-loop-left l = Adding (bytes_of l.row) l.channels l.initial.l.out l.at l.out l.to l.left
+invariant-loop-left l = Adding (bytes_of l.row) l.channels l.initial.out l.at l.out l.to l.left
 
 abbrev pub decreases-loop-left : goal.decreases-loop-left
 decreases-loop-left l = l.left

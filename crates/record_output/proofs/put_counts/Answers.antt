@@ -10,9 +10,9 @@ returns-then-out-at c = none-added (record_line c.args.kind c.args.refusal c.arg
 pub overflow_add-result : goal.overflow_add-result
 overflow_add-result c = let h = line_within c.args.out.now c.args.at
     (record_line c.args.kind c.args.refusal c.args.counts) c.if-out-at.false
-    c.counts_line_lem.ensures.1 in search rules
+    c.counts_line-n.ensures.value in search rules
 
 pub returns : goal.returns
 returns c = line_added c.args.out.now c.args.at
     (record_line c.args.kind c.args.refusal c.args.counts) c.if-out-at.false
-    c.counts_line_lem.ensures.0 c.counts_line_lem.ensures.1
+    c.counts_line-n.ensures.out_after c.counts_line-n.ensures.value

@@ -17,4 +17,4 @@ pub returns : goal.returns
 returns c =
     let a = c.args in
     let l = c.samples_line-n.ensures in
-    line_added a.out.now a.at (samples_line a.row.now) c.if-out-at.false l.0 l.1
+    line_added a.out.now a.at (samples_line a.row.now) c.if-out-at.false l.out_after l.value

@@ -12,28 +12,27 @@ use Rattle.record_output.proofs.unread.Goals as goal
 pub returns-then-is_full : goal.returns-then-is_full
 returns-then-is_full c =
     let a = c.args in
-    unread_full a.form a.counts a.out.now a.at c.in-Refused.is (ap (λ (k : ℕ). ltb k (room_for a.form [])) (sym c.room_at.ensures) ∙ sym c.is_full.ensures ∙ c.if-is_full.true)
+    let r = unread_full a.form a.counts a.out.now a.at c.in-Refused.is (ap (λ (k : ℕ). ltb k (room_for a.form [])) (sym c.room_at.ensures) ∙ sym c.is_full.ensures ∙ c.if-is_full.true) in record { pause_value = r.0; used_after = r.1.0; gives = r.1.1 }
 
 pub returns-in-Bytes : goal.returns-in-Bytes
 returns-in-Bytes c =
     let a = c.args in
-    unread_bytes a.form a.counts a.out.now a.at c.in-Refused.is c.in-Bytes.is
-    (ap (λ (k : ℕ). ltb k (room_for a.form [])) (sym c.room_at.ensures) ∙ sym c.is_full.ensures ∙ c.if-is_full.false)
+    let r = unread_bytes a.form a.counts a.out.now a.at c.in-Refused.is c.in-Bytes.is
+    (ap (λ (k : ℕ). ltb k (room_for a.form [])) (sym c.room_at.ensures) ∙ sym c.is_full.ensures ∙ c.if-is_full.false) in record { pause_value = r.0; used_after = r.1.0; gives = r.1.1 }
 
 pub returns-in-Lines : goal.returns-in-Lines
 returns-in-Lines c =
-    let c₁ = c.before.before.before.before.before.before.before.before in
-    let a = c₁.args in
-    unread_lines a.form a.counts a.out.now a.at c₁.in-Refused.is c.in-Lines.is
-    (ap (λ (k : ℕ). ltb k (room_for a.form [])) (sym c₁.room_at.ensures) ∙ sym c.is_full.ensures ∙ c.if-is_full.false)
-    (record_line_most _ _ a.counts.waiting a.counts.sounding a.counts.finished a.counts.let_go (search rules) (search rules) (search rules) (search rules) (search rules)) c.put_counts-to.ensures
+    let a = c.args in
+    let r = unread_lines a.form a.counts a.out.now a.at c.in-Refused.is c.in-Lines.is
+    (ap (λ (k : ℕ). ltb k (room_for a.form [])) (sym c.room_at.ensures) ∙ sym c.is_full.ensures ∙ c.if-is_full.false)
+    (record_line_most _ _ a.counts.waiting a.counts.sounding a.counts.finished a.counts.let_go (search rules) (search rules) (search rules) (search rules) (search rules)) c.put_counts-to.ensures in record { pause_value = r.0; used_after = r.1.0; gives = r.1.1 }
 
 pub returns-in-Record : goal.returns-in-Record
 returns-in-Record c =
     let a = c.args in
-    unread_record a.form a.counts a.out.now a.at c.in-Record.is
+    let r = unread_record a.form a.counts a.out.now a.at c.in-Record.is in record { pause_value = r.0; used_after = r.1.0; gives = r.1.1 }
 
 pub returns-in-End : goal.returns-in-End
 returns-in-End c =
     let a = c.args in
-    unread_end a.form a.counts a.out.now a.at c.in-End.is
+    let r = unread_end a.form a.counts a.out.now a.at c.in-End.is in record { pause_value = r.0; used_after = r.1.0; gives = r.1.1 }

@@ -2,6 +2,7 @@
 use Rattle.std.proofs.Common.{sym, ◌∙◌, ⊎_elim, rules}
 use Rattle.refusals.specs.Refusals.{edit_limits}
 use Rattle.refusals.proofs.edit_limits.Goals as goal
+use Rattle.refusals.proofs.edit_limits.Goals.{else-within_end-via-then-within_end+else-within, else-within_end-via-else-within_end}
 
 pub returns-then-within : goal.returns-then-within
 unfolding edit_limits
@@ -13,4 +14,7 @@ pub returns-else-within_end : goal.returns-else-within_end
 unfolding edit_limits
 returns-else-within_end c =
     let q = sym c.within_end.ensures in
-    ⊎_elim (λ w. rw (q ∙ w.0.taken, sym w.1.ensures ∙ w.2.left)) (λ w. rw (q ∙ w.left)) c.else-within_end.branch
+    elim c.else-within_end.branch [
+      | else-within_end-via-then-within_end+else-within w ↦ rw (q ∙ w.if-within_end.true, sym w.within.ensures ∙ w.if-within.false)
+      | else-within_end-via-else-within_end w ↦ rw (q ∙ w.if-within_end.false)
+    ]

@@ -15,10 +15,10 @@ pub returns-in-Stored : goal.returns-in-Stored
 unfolding no_room roomless
 returns-in-Stored c =
     let f = c.before.before in
-    rw (f.in-Nothing.is, f.if-end-threshold.false, sym f.find.ensures ∙ c.in-Stored.is)
+    rw (f.in-Nothing.is, f.if-end-threshold.false, sym c.find.ensures ∙ c.in-Stored.is)
 
 pub returns-in-Missing : goal.returns-in-Missing
 unfolding no_room roomless
 returns-in-Missing c =
     let f = c.before.before in
-    rw (f.in-Nothing.is, f.if-end-threshold.false, sym f.find.ensures ∙ c.in-Missing.is)
+    rw (f.in-Nothing.is, f.if-end-threshold.false, sym c.find.ensures ∙ c.in-Missing.is)

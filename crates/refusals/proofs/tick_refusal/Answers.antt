@@ -11,8 +11,8 @@ returns-then-len-outputs c = rw (ne_eqb _ _ c.if-len-outputs.true)
 
 pub returns-then-not-time-sample_duration : goal.returns-then-not-time-sample_duration
 unfolding tick_refusal whole of_bits round
-returns-then-not-time-sample_duration c = rw (eq-eqb _ _ c.if-len-outputs.false, c.if-not-time-sample_duration.true-raw)
+returns-then-not-time-sample_duration c = rw (eq-eqb _ _ c.if-len-outputs.false, c.if-not-time-sample_duration.true)
 
 pub returns : goal.returns
 unfolding tick_refusal whole of_bits round
-returns c = rw (eq-eqb _ _ c.if-len-outputs.false, c.if-not-time-sample_duration.false-raw)
+returns c = rw (eq-eqb _ _ c.if-len-outputs.false, c.if-not-time-sample_duration.false)

@@ -16,15 +16,13 @@ kth_push-requires c = omega (arith, c.loop-k-test.true)
 
 pub overflow_add-total : goal.overflow_add-total
 overflow_add-total c =
-    let test = c.before.before.before.before.before.before.before in
-    let most = size_most _ (sym test.is_size.ensures ∙ not-false _ test.if-not-is_size.false-raw) in
+    let most = size_most _ (sym c.is_size.ensures ∙ not-false _ c.if-not-is_size.false-raw) in
     let few = c.loop-k.invariant.few in
-    record { fits = omega (arith, few, rise_fits _ _ _ c.push_record_lem.ensures, c.loop-k-test.true, most) }
+    record { fits = omega (arith, few, rise_fits _ _ _ c.push_record-pushed.ensures, c.loop-k-test.true, most) }
 
 pub loop-k-preserved : goal.loop-k-preserved
-loop-k-preserved c = one_done _ _ _ _ _ _ c.loop-k-test.true c.kth_push.ensures c.push_record_lem.ensures c.loop-k.invariant
+loop-k-preserved c = one_done _ _ _ _ _ _ c.loop-k-test.true c.kth_push.ensures c.push_record-pushed.ensures c.loop-k.invariant
 
 pub returns : goal.returns
 returns c =
-    let test = c.before.before.before.before in
-    arranged_given _ (sym test.is_size.ensures ∙ not-false _ test.if-not-is_size.false-raw) _ (all_done _ _ _ _ c.loop-k-test.false c.loop-k.invariant)
+    arranged_given _ (sym c.is_size.ensures ∙ not-false _ c.if-not-is_size.false-raw) _ (all_done _ _ _ _ c.loop-k-test.false c.loop-k.invariant)

@@ -24,9 +24,8 @@ returns-then-value-gt256 c = sym (too_much _ _ c.if-value-gt256.true) ∙ sym (a
 
 pub loop-i-preserved : goal.loop-i-preserved
 loop-i-preserved c =
-    let t = c.before.before.before.before in
-    let d = digit-read _ _ _ t.loop-i-test.true c.if-b-lt48.false c.if-b-gt57.false in
-    (c.if-value-gt256.false, omega (arith, t.loop-i-test.true), sym (ap in_range d) ∙ t.loop-i.invariant.2)
+    let d = digit-read _ _ _ c.loop-i-test.true c.if-b-lt48.false c.if-b-gt57.false in
+    (c.if-value-gt256.false, omega (arith, c.loop-i-test.true), sym (ap in_range d) ∙ c.loop-i.invariant.2)
 
 pub returns : goal.returns
 returns c = all_read _ _ _ c.loop-i-test.false c.loop-i.invariant.0 ∙ c.loop-i.invariant.2

@@ -18,16 +18,14 @@ pub overflow_add-total : goal.overflow_add-total
 overflow_add-total c =
     let i = c.loop-k.invariant in
     let k = c.loop-k.k in
-    let test = c.before.before.before in
-    let most = size_most _ (sym test.is_size.ensures ∙ not-false _ test.if-not-is_size.false-raw) in
+    let most = size_most _ (sym c.is_size.ensures ∙ not-false _ c.if-not-is_size.false-raw) in
     record { fits = omega (arith, c.floor_log2-total.ensures, log2_small (k + 1), i.2, c.loop-k-test.true, most) }
 
 pub loop-k-preserved : goal.loop-k-preserved
 loop-k-preserved c =
     let i = c.loop-k.invariant in
     let k = c.loop-k.k in
-    let test = c.before.before.before in
-    let most = size_most _ (sym test.is_size.ensures ∙ not-false _ test.if-not-is_size.false-raw) in (
+    let most = size_most _ (sym c.is_size.ensures ∙ not-false _ c.if-not-is_size.false-raw) in (
       omega (arith, i.0, bound-next k, c.floor_log2-total.ensures),
       omega (arith, c.loop-k-test.true),
       omega (arith, c.floor_log2-total.ensures, log2_small (k + 1), i.2, c.loop-k-test.true, most),
@@ -36,5 +34,4 @@ loop-k-preserved c =
 pub returns : goal.returns
 returns c =
     let i = c.loop-k.invariant in
-    let test = c.before.before in
-    greatest_given _ (sym test.is_size.ensures ∙ not-false _ test.if-not-is_size.false-raw) _ (i.0 ∙ ap bound (omega (arith, i.1, c.loop-k-test.false)))
+    greatest_given _ (sym c.is_size.ensures ∙ not-false _ c.if-not-is_size.false-raw) _ (i.0 ∙ ap bound (omega (arith, i.1, c.loop-k-test.false)))

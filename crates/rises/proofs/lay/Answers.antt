@@ -6,7 +6,7 @@ use Rattle.rises.proofs.Laying.{Laying, creation-laid, push-laid, same-long, all
 use Rattle.rises.proofs.lay.Goals as goal
 
 pub returns-then-not-is_size : goal.returns-then-not-is_size
-returns-then-not-is_size c = lay_refused _ (sym c.is_size.ensures ∙ not-true _ c.if-not-is_size.true-raw) _
+returns-then-not-is_size c = let r = lay_refused _ (sym c.is_size.ensures ∙ not-true _ c.if-not-is_size.true-raw) _ in record { answer = r.0; lent = r.1 }
 
 pub overflow_mul-n : goal.overflow_mul-n
 overflow_mul-n c =
@@ -19,41 +19,32 @@ overflow_add-n c =
     record { fits = omega (arith, most) }
 
 pub returns-then-buf-n : goal.returns-then-buf-n
-returns-then-buf-n c = too_short _ _ c.if-buf-n.true (sym c.is_size.ensures ∙ not-false _ c.if-not-is_size.false-raw)
+returns-then-buf-n c = let r = too_short _ _ c.if-buf-n.true (sym c.is_size.ensures ∙ not-false _ c.if-not-is_size.false-raw) in record { answer = r.0; lent = r.1 }
 
 pub loop-k-init : goal.loop-k-init
 loop-k-init c =
-    let made = c.before.before.before.before in
-    creation-laid _ _ made.if-buf-n.false _ made.arguments_of.ensures _ c.write.ensures.lent
+    creation-laid _ _ c.if-buf-n.false _ c.arguments_of.ensures _ c.write.ensures.lent
 
 pub kth_push-requires : goal.kth_push-requires
 kth_push-requires c = omega (arith, c.loop-k-test.true)
 
 pub overflow_add-at : goal.overflow_add-at
 overflow_add-at c =
-    let d = c.before.before.before.before.before.before in
-    let test = d.before.before.before.before.before.before.before.before in
-    let most = size_most _ (sym test.is_size.ensures ∙ not-false _ test.if-not-is_size.false-raw) in
-    record { fits = omega (arith, d.loop-k.invariant.free, d.loop-k-test.true, most) }
+    let most = size_most _ (sym c.is_size.ensures ∙ not-false _ c.if-not-is_size.false-raw) in
+    record { fits = omega (arith, c.loop-k.invariant.free, c.loop-k-test.true, most) }
 
 pub loop-k-preserved : goal.loop-k-preserved
 loop-k-preserved c =
-    let b2 = c.before.before in
-    let b7 = b2.before.before.before.before.before in
-    let b10 = b7.before.before.before in
-    let first = b10.write.ensures.lent in
-    push-laid _ _ b10.if-buf-n.false _ b10.arguments_of.ensures _ first b7.loop-k.invariant
-    b2.loop-k-test.true _ b2.kth_push.ensures
-    _ b2.arguments_of-in-loop-k.ensures _ b2.write-in-loop-k.ensures.lent
+    let first = c.write.ensures.lent in
+    push-laid _ _ c.if-buf-n.false _ c.arguments_of.ensures _ first c.loop-k.invariant
+    c.loop-k-test.true _ c.kth_push.ensures
+    _ c.arguments_of-in-loop-k.ensures _ c.write-in-loop-k.ensures.lent
 
 pub shape_of-buf : goal.shape_of-buf
 shape_of-buf c =
-    let d = c.before.before.before.before.before.before in
-    same-long _ _ d.if-buf-n.false _ d.arguments_of.ensures _ c.write.ensures.lent c.loop-k.invariant
+    same-long _ _ c.if-buf-n.false _ c.arguments_of.ensures _ c.write.ensures.lent c.loop-k.invariant
 
 pub returns : goal.returns
 returns c =
-    let d = c.before.before.before.before.before.before in
-    let test = d.before.before in
-    all_laid _ _ d.if-buf-n.false _ d.arguments_of.ensures _ c.write.ensures.lent c.loop-k.invariant
-    c.loop-k-test.false (sym test.is_size.ensures ∙ not-false _ test.if-not-is_size.false-raw)
+    let r = all_laid _ _ c.if-buf-n.false _ c.arguments_of.ensures _ c.write.ensures.lent c.loop-k.invariant
+    c.loop-k-test.false (sym c.is_size.ensures ∙ not-false _ c.if-not-is_size.false-raw) in record { answer = r.0; lent = r.1 }

@@ -7,7 +7,7 @@ use Rattle.rises.proofs.lay.Given as goal
 
 -- buf₀ has the first record
 abbrev pub invariant-loop-k : goal.invariant-loop-k
-invariant-loop-k l = Laying l.n l.initial.l.buf l.buf l.at l.k
+invariant-loop-k l = Laying l.n l.initial.buf l.buf l.at l.k
 
 abbrev pub decreases-loop-k : goal.decreases-loop-k
 decreases-loop-k l = l.n - l.k

@@ -11,7 +11,7 @@ use Rattle.runs.proofs.Adds.{walk_chain}
 use Rattle.runs.proofs.add_ramp.Given as goal
 
 abbrev pub invariant-loop-i : goal.invariant-loop-i
-invariant-loop-i l = Turns (λ y a. a +ˢ (y ×ˢ l.gain)) (λ y. y +ˢ l.step) l.value l.initial.l.s l.i l.next l.s
+invariant-loop-i l = Turns (λ y a. a +ˢ (y ×ˢ l.gain)) (λ y. y +ˢ l.step) l.value l.initial.s l.i l.next l.s
 
 abbrev pub decreases-loop-i : goal.decreases-loop-i
-decreases-loop-i l = length l.initial.l.s - l.i
+decreases-loop-i l = length l.initial.s - l.i

@@ -14,9 +14,9 @@ returns-in-Held c =
     let u = a.unit in
     let pool = a.pool.now in
     let l = a.s.now in
-    let g = c.source-1.given in (
-      c.add_level.ensures ∙ added-level a.gain g.0.0 l ∙ ap (λ (r : List Float). added a.gain r l) (sym (held_given pool u g.0.0 g.1 (length l))),
-      sym (held_after pool u g.0.0 g.1 (length l)),
+    let h = c.in-Held in (
+      c.add_level.ensures ∙ added-level a.gain h.level l ∙ ap (λ (r : List Float). added a.gain r l) (sym (held_given pool u h.level h.is (length l))),
+      sym (held_after pool u h.level h.is (length l)),
     )
 
 pub returns-in-Ramp : goal.returns-in-Ramp
@@ -25,9 +25,9 @@ returns-in-Ramp c =
     let u = a.unit in
     let pool = a.pool.now in
     let l = a.s.now in
-    let g = c.source-in-Ramp-1.given in (
-      c.add_ramp.ensures.0 ∙ ap (λ (r : List Float). added a.gain r l) (sym (ramp_given pool u g.0.0 g.0.1.0 g.1 (length l))),
-      rw c.add_ramp.ensures.1 (sym (ramp-after pool u g.0.0 g.0.1.0 g.1 (length l))),
+    let h = c.in-Ramp in (
+      c.add_ramp.ensures.0 ∙ ap (λ (r : List Float). added a.gain r l) (sym (ramp_given pool u h.field-0 h.step h.is (length l))),
+      rw c.add_ramp.ensures.1 (sym (ramp-after pool u h.field-0 h.step h.is (length l))),
     )
 
 pub returns-in-Clip : goal.returns-in-Clip
@@ -36,7 +36,7 @@ returns-in-Clip c =
     let u = a.unit in
     let pool = a.pool.now in
     let l = a.s.now in
-    let g = c.source-in-Clip-1.given in (
-      c.add_clip.ensures.0 ∙ ap (λ (r : List Float). added a.gain r l) (sym (clip_given pool u g.0.0 g.0.1.0 g.1 (length l))),
-      rw c.add_clip.ensures.1 (sym (clip-after pool u g.0.0 g.0.1.0 g.1 (length l))),
+    let h = c.in-Clip in (
+      c.add_clip.ensures.0 ∙ ap (λ (r : List Float). added a.gain r l) (sym (clip_given pool u h.offset h.length h.is (length l))),
+      rw c.add_clip.ensures.1 (sym (clip-after pool u h.offset h.length h.is (length l))),
     )

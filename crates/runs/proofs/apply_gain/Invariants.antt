@@ -10,7 +10,7 @@ use Rattle.runs.proofs.Walks.{walk_map}
 use Rattle.runs.proofs.apply_gain.Given as goal
 
 abbrev pub invariant-loop-i : goal.invariant-loop-i
-invariant-loop-i l = Turns (λ (k : ℕ) a. a ×ˢ l.gain) (λ k. k) 0 l.initial.l.s l.i 0 l.s
+invariant-loop-i l = Turns (λ (k : ℕ) a. a ×ˢ l.gain) (λ k. k) 0 l.initial.s l.i 0 l.s
 
 abbrev pub decreases-loop-i : goal.decreases-loop-i
-decreases-loop-i l = length l.initial.l.s - l.i
+decreases-loop-i l = length l.initial.s - l.i

@@ -15,9 +15,8 @@ overflow_sub-out c = omega (arith, c.loop-out.invariant.within)
 pub loop-out-preserved : goal.loop-out-preserved
 loop-out-preserved c =
     let r = c.copy_row in
-    let t = c.before.before.before.before in
-    let i = t.loop-out.invariant in
-    rows-turn _ _ r.new.0 i (omega (arith, i.within, t.loop-out-test.true)) r.ensures r.auto.0
+    let i = c.loop-out.invariant in
+    rows-turn _ _ r.new.row i (omega (arith, i.within, c.loop-out-test.true)) r.ensures r.auto.row
 
 pub returns : goal.returns
 returns c = rows_done _ _ c.loop-out.invariant (omega (arith, c.loop-out.invariant.within, c.loop-out-test.false))

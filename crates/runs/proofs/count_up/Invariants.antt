@@ -10,7 +10,7 @@ use Rattle.runs.proofs.Walks.{walk_made, ends-steps}
 use Rattle.runs.proofs.count_up.Given as goal
 
 abbrev pub invariant-loop-i : goal.invariant-loop-i
-invariant-loop-i l = Turns (λ y a. y) (λ y. y +ˢ l.step) l.value l.initial.l.s l.i l.next l.s
+invariant-loop-i l = Turns (λ y a. y) (λ y. y +ˢ l.step) l.value l.initial.s l.i l.next l.s
 
 abbrev pub decreases-loop-i : goal.decreases-loop-i
-decreases-loop-i l = length l.initial.l.s - l.i
+decreases-loop-i l = length l.initial.s - l.i

@@ -5,7 +5,4 @@ use Rattle.runs.proofs.fade_by.Goals as goal
 
 pub returns : goal.returns
 returns c =
-    let b2 = c.before.before in
-    let b7 = b2.before.before.before.before.before in
-    let b11 = b7.before.before.before.before in
-    rw (b2.shape.ensures, b7.phases.ensures, ← b11.requires) (two-passes b11.args.ease b11.args.rising b11.args.phase b11.args.step b11.args.s.now)
+    rw (c.shape.ensures, c.phases.ensures, ← c.requires) (two-passes c.args.ease c.args.rising c.args.phase c.args.step c.args.s.now)

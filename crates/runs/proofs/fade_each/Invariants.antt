@@ -12,7 +12,7 @@ use Rattle.runs.specs.Turns.{Turns, start, turn, done}
 use Rattle.runs.proofs.fade_each.Given as goal
 
 abbrev pub invariant-loop-i : goal.invariant-loop-i
-invariant-loop-i l = Turns (λ y a. a ×ˢ curve l.ease (facing l.rising y)) (λ y. y +ˢ l.step) l.phase l.initial.l.s l.i l.x l.s
+invariant-loop-i l = Turns (λ y a. a ×ˢ curve l.ease (facing l.rising y)) (λ y. y +ˢ l.step) l.phase l.initial.s l.i l.x l.s
 
 abbrev pub decreases-loop-i : goal.decreases-loop-i
-decreases-loop-i l = length l.initial.l.s - l.i
+decreases-loop-i l = length l.initial.s - l.i

@@ -10,21 +10,21 @@ returns-in-Held c =
     let u = c.args.unit in
     let pool = c.args.pool.now in
     let k = length c.args.s.now in
-    let g = c.source-1.given in
-    (c.set_all.ensures ∙ sym (held_given pool u g.0.0 g.1 k), sym (held_after pool u g.0.0 g.1 k))
+    let h = c.in-Held in
+    (c.set_all.ensures ∙ sym (held_given pool u h.level h.is k), sym (held_after pool u h.level h.is k))
 
 pub returns-in-Ramp : goal.returns-in-Ramp
 returns-in-Ramp c =
     let u = c.args.unit in
     let pool = c.args.pool.now in
     let k = length c.args.s.now in
-    let g = c.source-in-Ramp-1.given in
-    (c.count_up.ensures.0 ∙ sym (ramp_given pool u g.0.0 g.0.1.0 g.1 k), rw c.count_up.ensures.1 (sym (ramp-after pool u g.0.0 g.0.1.0 g.1 k)))
+    let h = c.in-Ramp in
+    (c.count_up.ensures.0 ∙ sym (ramp_given pool u h.field-0 h.step h.is k), rw c.count_up.ensures.1 (sym (ramp-after pool u h.field-0 h.step h.is k)))
 
 pub returns-in-Clip : goal.returns-in-Clip
 returns-in-Clip c =
     let u = c.args.unit in
     let pool = c.args.pool.now in
     let k = length c.args.s.now in
-    let g = c.source-in-Clip-1.given in
-    (c.clip.ensures.0 ∙ sym (clip_given pool u g.0.0 g.0.1.0 g.1 k), rw c.clip.ensures.1 (sym (clip-after pool u g.0.0 g.0.1.0 g.1 k)))
+    let h = c.in-Clip in
+    (c.clip.ensures.0 ∙ sym (clip_given pool u h.offset h.length h.is k), rw c.clip.ensures.1 (sym (clip-after pool u h.offset h.length h.is k)))

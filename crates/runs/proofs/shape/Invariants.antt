@@ -11,7 +11,7 @@ use Rattle.runs.proofs.Walks.{walk_zipped}
 use Rattle.runs.proofs.shape.Given as goal
 
 abbrev pub invariant-loop-i : goal.invariant-loop-i
-invariant-loop-i l = Turns (λ k a. a ×ˢ curve l.ease (get_or l.xs k nan)) (λ k. k + 1) 0 l.initial.l.s l.i l.i l.s
+invariant-loop-i l = Turns (λ k a. a ×ˢ curve l.ease (get_or l.xs k nan)) (λ k. k + 1) 0 l.initial.s l.i l.i l.s
 
 abbrev pub decreases-loop-i : goal.decreases-loop-i
-decreases-loop-i l = length l.initial.l.s - l.i
+decreases-loop-i l = length l.initial.s - l.i

@@ -14,13 +14,9 @@ returns-then-has-2 c = rw (sym c.has.ensures ∙ c.if-has.false, sym c.has-2.ens
 pub returns-then-has-3 : goal.returns-then-has-3
 unfolding standing_in
 returns-then-has-3 c =
-    let b = c.before.before.before in
-    let a = b.before.before.before in
-    rw (sym a.has.ensures ∙ a.if-has.false, sym b.has-2.ensures ∙ b.if-has-2.false, sym c.has-3.ensures ∙ c.if-has-3.true) refl
+    rw (sym c.has.ensures ∙ c.if-has.false, sym c.has-2.ensures ∙ c.if-has-2.false, sym c.has-3.ensures ∙ c.if-has-3.true) refl
 
 pub returns : goal.returns
 unfolding standing_in
 returns c =
-    let b = c.before.before.before in
-    let a = b.before.before.before in
-    rw (sym a.has.ensures ∙ a.if-has.false, sym b.has-2.ensures ∙ b.if-has-2.false, sym c.has-3.ensures ∙ c.if-has-3.false) refl
+    rw (sym c.has.ensures ∙ c.if-has.false, sym c.has-2.ensures ∙ c.if-has-2.false, sym c.has-3.ensures ∙ c.if-has-3.false) refl

@@ -8,10 +8,6 @@ use Rattle.state_listing.proofs.put_numbers.Goals as goal
 pub returns : goal.returns
 unfolding number_parts
 returns c =
-    let s2 = c.before.before in
-    let s7 = s2.before.before.before.before.before in
-    let s12 = s7.before.before.before.before.before in
-    let s16 = s12.before.before.before.before in
-    let s = s16.args.s in
-    join _ (number_part (ascii " channels=") s.outputs) (number_part (ascii " next=") s.next ++ number_part (ascii " gone=") s.let_go) s12.put_number-to.ensures
-    (join _ (number_part (ascii " next=") s.next) (number_part (ascii " gone=") s.let_go) s7.put_number-to-2.ensures s2.put_number.ensures)
+    let s = c.args.s in
+    join _ (number_part (ascii " channels=") s.outputs) (number_part (ascii " next=") s.next ++ number_part (ascii " gone=") s.let_go) c.put_number-to.ensures
+    (join _ (number_part (ascii " next=") s.next) (number_part (ascii " gone=") s.let_go) c.put_number-to-2.ensures c.put_number.ensures)

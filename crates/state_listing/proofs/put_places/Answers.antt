@@ -7,10 +7,6 @@ use Rattle.state_listing.proofs.put_places.Goals as goal
 
 pub returns : goal.returns
 returns c =
-    let s2 = c.before.before in
-    let s7 = s2.before.before.before.before.before in
-    let s12 = s7.before.before.before.before.before in
-    let s16 = s12.before.before.before.before in
-    let p = s16.args.c in
-    join _ (number_part (ascii " answer=rendered:") p.kept) (number_part (ascii ":") p.forced ++ number_part (ascii ":") p.edge) s12.put_number-to.ensures
-    (join _ (number_part (ascii ":") p.forced) (number_part (ascii ":") p.edge) s7.put_number-to-2.ensures s2.put_number.ensures)
+    let p = c.args.c in
+    join _ (number_part (ascii " answer=rendered:") p.kept) (number_part (ascii ":") p.forced ++ number_part (ascii ":") p.edge) c.put_number-to.ensures
+    (join _ (number_part (ascii ":") p.forced) (number_part (ascii ":") p.edge) c.put_number-to-2.ensures c.put_number.ensures)

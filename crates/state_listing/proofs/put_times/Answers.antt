@@ -8,14 +8,9 @@ use Rattle.state_listing.proofs.put_times.Goals as goal
 pub returns : goal.returns
 unfolding time_parts
 returns c =
-    let s2 = c.before.before in
-    let s7 = s2.before.before.before.before.before in
-    let s12 = s7.before.before.before.before.before in
-    let s17 = s12.before.before.before.before.before in
-    let s21 = s17.before.before.before.before in
-    let s = s21.args.s in
+    let s = c.args.s in
     let last = time_part (ascii " duration=") s.sample_duration in
     let third = time_part (ascii " rate=") s.sample_rate in
     let second = time_part (ascii " threshold=") s.active_threshold in
-    join _ (time_part (ascii " clock=") s.time) (second ++ (third ++ last)) s17.put_time-to.ensures
-    (join _ second (third ++ last) s12.put_time-to-2.ensures (join _ third last s7.put_time-to-3.ensures s2.put_time.ensures))
+    join _ (time_part (ascii " clock=") s.time) (second ++ (third ++ last)) c.put_time-to.ensures
+    (join _ second (third ++ last) c.put_time-to-2.ensures (join _ third last c.put_time-to-3.ensures c.put_time.ensures))

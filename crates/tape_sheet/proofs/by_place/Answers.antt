@@ -7,26 +7,22 @@ use Rattle.tape_sheet.proofs.by_place.Goals as goal
 
 pub returns-in-0 : goal.returns-in-0
 returns-in-0 c =
-    let s1 = c.before in
-    let a = s1.args in
+    let a = c.args in
     sym (ap (λ (p : ℕ). by_place p a.waiting a.sounding a.finished a.let_go) c.in-0.is)
 
 pub returns-in-1 : goal.returns-in-1
 returns-in-1 c =
-    let s1 = c.before in
-    let a = s1.args in
+    let a = c.args in
     sym (ap (λ (p : ℕ). by_place p a.waiting a.sounding a.finished a.let_go) c.in-1.is)
 
 pub returns-in-2 : goal.returns-in-2
 returns-in-2 c =
-    let s1 = c.before in
-    let a = s1.args in
+    let a = c.args in
     sym (ap (λ (p : ℕ). by_place p a.waiting a.sounding a.finished a.let_go) c.in-2.is)
 
 pub returns-in_default : goal.returns-in_default
 returns-in_default c =
-    let s1 = c.before in
-    let a = s1.args in
-    let r = c.in_default.rest in
+    let a = c.args in
+    let r = c.in_default.in_default-own.rest in
     let e : by_place a.place a.waiting a.sounding a.finished a.let_go ≡ a.let_go = simp (ne_eqb _ _ r.1, ne_eqb _ _ r.0.1, ne_eqb _ _ r.0.0.1) in
     sym e

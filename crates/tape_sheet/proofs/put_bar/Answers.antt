@@ -18,15 +18,8 @@ returns-then-bits-eq0 c =
 pub returns : goal.returns
 unfolding bar
 returns c =
-    let s2 = c.before.before in
-    let s7 = s2.before.before.before.before.before in
-    let s12 = s7.before.before.before.before.before in
-    let s15 = s12.before.before.before in
-    let s16 = s15.before in
-    let s17 = s16.before in
-    let s19 = s17.before.before in
-    let e1 = s12.put_numbered-to.ensures in
-    let e2 = named _ (ap (λ (n : ℕ). ascii " " ∷ decimal n ∷ []) (s15.less-top.ensures ∙ ap (λ (z : ℕ). s19.args.middle - z) s16.height-h.ensures.value)) s7.put_numbered-to-2.ensures in
-    let e3 = named _ (ap (λ (n : ℕ). ascii "v" ∷ decimal (n + n + 1) ∷ []) s16.height-h.ensures.value) s2.put_numbered.ensures in
+    let e1 = c.put_numbered-to.ensures in
+    let e2 = named _ (ap (λ (n : ℕ). ascii " " ∷ decimal n ∷ []) (c.less-top.ensures ∙ ap (λ (z : ℕ). c.args.middle - z) c.height-h.ensures.value)) c.put_numbered-to-2.ensures in
+    let e3 = named _ (ap (λ (n : ℕ). ascii "v" ∷ decimal (n + n + 1) ∷ []) c.height-h.ensures.value) c.put_numbered.ensures in
     let r = further _ _ _ e1 (further _ _ _ e2 e3) in
-    named _ (rw (ne_eqb _ _ s17.if-bits-eq0.false) refl) r
+    named _ (rw (ne_eqb _ _ c.if-bits-eq0.false) refl) r

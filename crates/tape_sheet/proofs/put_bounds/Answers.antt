@@ -6,13 +6,9 @@ use Rattle.tape_sheet.proofs.put_bounds.Goals as goal
 pub returns : goal.returns
 unfolding bounds
 returns c =
-    let s2 = c.before.before in
-    let s7 = s2.before.before.before.before.before in
-    let s12 = s7.before.before.before.before.before in
-    let s17 = s12.before.before.before.before.before in
-    let e1 = s17.put_attribute-to.ensures in
-    let e2 = s12.put_attribute-to-2.ensures in
-    let e3 = s7.put_attribute-to-3.ensures in
-    let e4 = s2.put_attribute.ensures in
+    let e1 = c.put_attribute-to.ensures in
+    let e2 = c.put_attribute-to-2.ensures in
+    let e3 = c.put_attribute-to-3.ensures in
+    let e4 = c.put_attribute.ensures in
     let r = further _ _ _ e1 (further _ _ _ e2 (further _ _ _ e3 e4)) in
     r

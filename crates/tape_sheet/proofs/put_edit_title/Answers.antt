@@ -6,11 +6,8 @@ use Rattle.tape_sheet.proofs.put_edit_title.Goals as goal
 pub returns : goal.returns
 unfolding edit_title
 returns c =
-    let s2 = c.before.before in
-    let s6 = s2.before.before.before.before in
-    let s11 = s6.before.before.before.before.before in
-    let e1 = s11.put_call_at-to.ensures in
-    let e2 = one _ _ s6.put_bytes-to.ensures in
-    let e3 = s2.put_answer.ensures in
+    let e1 = c.put_call_at-to.ensures in
+    let e2 = one _ _ c.put_bytes-to.ensures in
+    let e3 = c.put_answer.ensures in
     let r = further _ _ _ e1 (further _ _ _ e2 e3) in
     r

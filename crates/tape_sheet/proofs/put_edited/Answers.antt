@@ -6,13 +6,9 @@ use Rattle.tape_sheet.proofs.put_edited.Goals as goal
 pub returns : goal.returns
 unfolding edited
 returns c =
-    let s2 = c.before.before in
-    let s7 = s2.before.before.before.before.before in
-    let s11 = s7.before.before.before.before in
-    let s16 = s11.before.before.before.before.before in
-    let e1 = s16.put_open_mark-to.ensures in
-    let e2 = one _ _ s11.put_bytes-to.ensures in
-    let e3 = s7.put_edit_title-to.ensures in
-    let e4 = one _ _ s2.put_bytes.ensures in
+    let e1 = c.put_open_mark-to.ensures in
+    let e2 = one _ _ c.put_bytes-to.ensures in
+    let e3 = c.put_edit_title-to.ensures in
+    let e4 = one _ _ c.put_bytes.ensures in
     let r = further _ _ _ e1 (further _ _ _ e2 (further _ _ _ e3 e4)) in
     r

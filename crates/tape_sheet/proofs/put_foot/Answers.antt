@@ -9,12 +9,8 @@ use Rattle.tape_sheet.proofs.put_foot.Goals as goal
 pub returns : goal.returns
 unfolding foot
 returns c =
-    let s2 = c.before.before in
-    let s7 = s2.before.before.before.before.before in
-    let s11 = s7.before.before.before.before in
-    let s14 = s11.before.before.before in
-    let e1 = named _ (ap (λ (y¹ : ℕ). open_text (ascii "z") 170 (y¹ + 20)) s14.wave-y.ensures.value) s11.put_open_text-to.ensures in
-    let e2 = s7.put_sum-to.ensures in
-    let e3 = one _ _ s2.put_bytes.ensures in
+    let e1 = named _ (ap (λ (y¹ : ℕ). open_text (ascii "z") 170 (y¹ + 20)) c.wave-y.ensures.value) c.put_open_text-to.ensures in
+    let e2 = c.put_sum-to.ensures in
+    let e3 = one _ _ c.put_bytes.ensures in
     let r = further _ _ _ e1 (further _ _ _ e2 e3) in
     r

@@ -6,19 +6,12 @@ use Rattle.tape_sheet.proofs.put_measures.Goals as goal
 pub returns : goal.returns
 unfolding measures
 returns c =
-    let s2 = c.before.before in
-    let s7 = s2.before.before.before.before.before in
-    let s11 = s7.before.before.before.before in
-    let s16 = s11.before.before.before.before.before in
-    let s21 = s16.before.before.before.before.before in
-    let s26 = s21.before.before.before.before.before in
-    let s30 = s26.before.before.before.before in
-    let e1 = s30.put_open_text-to.ensures in
-    let e2 = one _ _ s26.put_decimal-to.ensures in
-    let e3 = s21.put_numbered-to.ensures in
-    let e4 = s16.put_timed-to.ensures in
-    let e5 = one _ _ s11.put_bytes-to.ensures in
-    let e6 = s7.put_axis_time-to.ensures in
-    let e7 = one _ _ s2.put_bytes.ensures in
+    let e1 = c.put_open_text-to.ensures in
+    let e2 = one _ _ c.put_decimal-to.ensures in
+    let e3 = c.put_numbered-to.ensures in
+    let e4 = c.put_timed-to.ensures in
+    let e5 = one _ _ c.put_bytes-to.ensures in
+    let e6 = c.put_axis_time-to.ensures in
+    let e7 = one _ _ c.put_bytes.ensures in
     let r = further _ _ _ e1 (further _ _ _ e2 (further _ _ _ e3 (further _ _ _ e4 (further _ _ _ e5 (further _ _ _ e6 e7))))) in
     r

@@ -8,16 +8,10 @@ use Rattle.tape_sheet.proofs.put_open_mark.Goals as goal
 pub returns : goal.returns
 unfolding open_mark
 returns c =
-    let s2 = c.before.before in
-    let s6 = s2.before.before.before.before in
-    let s11 = s6.before.before.before.before.before in
-    let s15 = s11.before.before.before.before in
-    let s18 = s15.before.before.before in
-    let s21 = s18.before.before.before in
-    let a = s21.args in
-    let e1 = one _ _ s15.put_bytes-to.ensures in
-    let e2 = named _ (ap (λ (y¹ : ℕ). open_box a.class.now y¹ (70 + a.row % 8 * 13) 32 12) s18.x-x.ensures.value) s11.put_open_box-to.ensures in
-    let e3 = one _ _ s6.put_bytes-to-2.ensures in
-    let e4 = named _ (ap (λ (y¹ : ℕ). open_text a.class.now (y¹ + 16) (79 + a.row % 8 * 13)) s18.x-x.ensures.value) s2.put_open_text.ensures in
+    let a = c.args in
+    let e1 = one _ _ c.put_bytes-to.ensures in
+    let e2 = named _ (ap (λ (y¹ : ℕ). open_box a.class.now y¹ (70 + a.row % 8 * 13) 32 12) c.x-x.ensures.value) c.put_open_box-to.ensures in
+    let e3 = one _ _ c.put_bytes-to-2.ensures in
+    let e4 = named _ (ap (λ (y¹ : ℕ). open_text a.class.now (y¹ + 16) (79 + a.row % 8 * 13)) c.x-x.ensures.value) c.put_open_text.ensures in
     let r = further _ _ _ e1 (further _ _ _ e2 (further _ _ _ e3 e4)) in
     r

@@ -11,14 +11,9 @@ use Rattle.tape_sheet.proofs.put_page.Goals as goal
 pub returns : goal.returns
 unfolding page
 returns c =
-    let s2 = c.before.before in
-    let s7 = s2.before.before.before.before.before in
-    let s12 = s7.before.before.before.before.before in
-    let s17 = s12.before.before.before.before.before in
-    let s20 = s17.before.before.before in
-    let e1 = one _ _ s17.put_bytes-to.ensures in
-    let e2 = named _ (ap (λ (n : ℕ). attribute (ascii "height") (n + 60)) s20.wave-y.ensures.value) s12.put_attribute-to.ensures in
-    let e3 = named _ (ap (λ (n : ℕ). ascii " viewBox=\"0 0 1640 " ∷ decimal (n + 60) ∷ []) s20.wave-y.ensures.value) s7.put_numbered-to.ensures in
-    let e4 = one _ _ s2.put_bytes.ensures in
+    let e1 = one _ _ c.put_bytes-to.ensures in
+    let e2 = named _ (ap (λ (n : ℕ). attribute (ascii "height") (n + 60)) c.wave-y.ensures.value) c.put_attribute-to.ensures in
+    let e3 = named _ (ap (λ (n : ℕ). ascii " viewBox=\"0 0 1640 " ∷ decimal (n + 60) ∷ []) c.wave-y.ensures.value) c.put_numbered-to.ensures in
+    let e4 = one _ _ c.put_bytes.ensures in
     let r = further _ _ _ e1 (further _ _ _ e2 (further _ _ _ e3 e4)) in
     r

@@ -17,27 +17,19 @@ at_most false false false = omega arith
 
 pub overflow_add-top : goal.overflow_add-top
 overflow_add-top c =
-    let s19 = c.before.before.before.before.before.before.before.before.before.before.before.before.before.before.before.before.before.before.before in
-    let s21 = s19.before.before in
-    let place = s21.args.place in
-    let h = s21.requires in
-    let m : s19.by_place-inset.result ≤ 9 = rw s19.by_place-inset.ensures (at_most (eqb place 0) (eqb place 1) (eqb place 2)) in
+    let place = c.args.place in
+    let h = c.requires in
+    let m : c.by_place-inset.result ≤ 9 = rw c.by_place-inset.ensures (at_most (eqb place 0) (eqb place 1) (eqb place 2)) in
     search rules
 
 pub returns : goal.returns
 unfolding class_text inset_of thickness_of standing
 returns c =
-    let s2 = c.before.before in
-    let s6 = s2.before.before.before.before in
-    let s11 = s6.before.before.before.before.before in
-    let s19 = s11.before.before.before.before.before.before.before.before in
-    let s22 = s19.before.before.before in
-    let s23 = s22.before in
-    let a = s23.args in
-    let e1 = one _ _ s19.put_bytes-to.ensures in
-    let e2 = one _ _ s11.put_by_place-to.ensures in
-    let e3 = one _ _ s6.put_bytes-to-2.ensures in
-    let y = ap (λ (n : ℕ). bounds a.x (a.top + n) a.width s22.by_place-height.result) s23.by_place-inset.ensures in
-    let e4 = named _ (y ∙ ap (λ (n : ℕ). bounds a.x (a.top + inset_of a.place) a.width n) s22.by_place-height.ensures) s2.put_bounds.ensures in
+    let a = c.args in
+    let e1 = one _ _ c.put_bytes-to.ensures in
+    let e2 = one _ _ c.put_by_place-to.ensures in
+    let e3 = one _ _ c.put_bytes-to-2.ensures in
+    let y = ap (λ (n : ℕ). bounds a.x (a.top + n) a.width c.by_place-height.result) c.by_place-inset.ensures in
+    let e4 = named _ (y ∙ ap (λ (n : ℕ). bounds a.x (a.top + inset_of a.place) a.width n) c.by_place-height.ensures) c.put_bounds.ensures in
     let r = further _ _ _ e1 (further _ _ _ e2 (further _ _ _ e3 e4)) in
     r

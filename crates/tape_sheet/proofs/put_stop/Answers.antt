@@ -15,17 +15,10 @@ returns-then-stop-eq0 c = rw (eq-eqb _ _ c.if-stop-eq0.true) refl
 pub returns : goal.returns
 unfolding stop_text
 returns c =
-    let s2 = c.before.before in
-    let s7 = s2.before.before.before.before.before in
-    let s11 = s7.before.before.before.before in
-    let s16 = s11.before.before.before.before.before in
-    let s19 = s16.before.before.before in
-    let s20 = s19.before in
-    let s22 = s20.before.before in
-    let a = s22.args in
-    let e1 = named _ (ap (λ (y¹ : ℕ). open_text (ascii "z") 170 (y¹ + 42)) s19.wave-y.ensures.value) s16.put_open_text-to.ensures in
-    let e2 = one _ _ s11.put_bytes-to.ensures in
-    let e3 = s7.put_refusal-to.ensures in
-    let e4 = one _ _ s2.put_bytes.ensures in
+    let a = c.args in
+    let e1 = named _ (ap (λ (y¹ : ℕ). open_text (ascii "z") 170 (y¹ + 42)) c.wave-y.ensures.value) c.put_open_text-to.ensures in
+    let e2 = one _ _ c.put_bytes-to.ensures in
+    let e3 = c.put_refusal-to.ensures in
+    let e4 = one _ _ c.put_bytes.ensures in
     let r = further _ _ _ e1 (further _ _ _ e2 (further _ _ _ e3 e4)) in
-    named _ (rw (ne_eqb _ _ s20.if-stop-eq0.false) refl) r
+    named _ (rw (ne_eqb _ _ c.if-stop-eq0.false) refl) r

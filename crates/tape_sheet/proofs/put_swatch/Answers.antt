@@ -6,15 +6,10 @@ use Rattle.tape_sheet.proofs.put_swatch.Goals as goal
 pub returns : goal.returns
 unfolding swatch
 returns c =
-    let s2 = c.before.before in
-    let s7 = s2.before.before.before.before.before in
-    let s11 = s7.before.before.before.before in
-    let s16 = s11.before.before.before.before.before in
-    let s21 = s16.before.before.before.before.before in
-    let e1 = s21.put_standing-to.ensures in
-    let e2 = one _ _ s16.put_bytes-to.ensures in
-    let e3 = s11.put_open_text-to.ensures in
-    let e4 = one _ _ s7.put_name-to.ensures in
-    let e5 = one _ _ s2.put_bytes.ensures in
+    let e1 = c.put_standing-to.ensures in
+    let e2 = one _ _ c.put_bytes-to.ensures in
+    let e3 = c.put_open_text-to.ensures in
+    let e4 = one _ _ c.put_name-to.ensures in
+    let e5 = one _ _ c.put_bytes.ensures in
     let r = further _ _ _ e1 (further _ _ _ e2 (further _ _ _ e3 (further _ _ _ e4 e5))) in
     r

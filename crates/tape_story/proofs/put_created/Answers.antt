@@ -6,11 +6,8 @@ use Rattle.tape_story.proofs.put_created.Goals as goal
 pub returns : goal.returns
 unfolding created_text
 returns c =
-    let s2 = c.before.before in
-    let s7 = s2.before.before.before.before.before in
-    let s11 = s7.before.before.before.before in
-    let e1 = s11.put_numbered-to.ensures in
-    let e2 = one _ _ s7.put_mode-to.ensures in
-    let e3 = s2.put_numbered.ensures in
+    let e1 = c.put_numbered-to.ensures in
+    let e2 = one _ _ c.put_mode-to.ensures in
+    let e3 = c.put_numbered.ensures in
     let r = further _ _ _ e1 (further _ _ _ e2 e3) in
     r

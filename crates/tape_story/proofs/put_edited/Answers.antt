@@ -6,9 +6,7 @@ use Rattle.tape_story.proofs.put_edited.Goals as goal
 pub returns : goal.returns
 unfolding edited_text
 returns c =
-    let s2 = c.before.before in
-    let s6 = s2.before.before.before.before in
-    let e1 = one _ _ s6.put_bytes-to.ensures in
-    let e2 = s2.put_answer.ensures in
+    let e1 = one _ _ c.put_bytes-to.ensures in
+    let e2 = c.put_answer.ensures in
     let r = further _ _ _ e1 e2 in
     r

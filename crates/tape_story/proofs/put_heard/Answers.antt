@@ -6,9 +6,7 @@ use Rattle.tape_story.proofs.put_heard.Goals as goal
 pub returns : goal.returns
 unfolding heard_text
 returns c =
-    let s2 = c.before.before in
-    let s7 = s2.before.before.before.before.before in
-    let e1 = s7.put_samples-to.ensures in
-    let e2 = one _ _ s2.put_bytes.ensures in
+    let e1 = c.put_samples-to.ensures in
+    let e2 = one _ _ c.put_bytes.ensures in
     let r = further _ _ _ e1 e2 in
     r

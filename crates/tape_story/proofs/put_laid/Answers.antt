@@ -6,9 +6,7 @@ use Rattle.tape_story.proofs.put_laid.Goals as goal
 pub returns : goal.returns
 unfolding laid_text
 returns c =
-    let s2 = c.before.before in
-    let s8 = s2.before.before.before.before.before.before in
-    let e1 = s8.put_numbered-to.ensures in
-    let e2 = one _ _ s2.put_either.ensures in
+    let e1 = c.put_numbered-to.ensures in
+    let e2 = one _ _ c.put_either.ensures in
     let r = further _ _ _ e1 e2 in
     r

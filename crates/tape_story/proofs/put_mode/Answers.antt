@@ -7,13 +7,9 @@ use Rattle.tape_story.proofs.put_mode.Goals as goal
 pub returns-in-All : goal.returns-in-All
 unfolding mode_text
 returns-in-All c =
-    let s2 = c.before.before in
-    let s5 = s2.before.before.before in
-    under _ (ap mode_text s5.in-All.is) s2.put_bytes.ensures
+    under _ (ap mode_text c.in-All.is) c.put_bytes.ensures
 
 pub returns-in-None : goal.returns-in-None
 unfolding mode_text
 returns-in-None c =
-    let s2 = c.before.before in
-    let s5 = s2.before.before.before in
-    under _ (ap mode_text s5.in-None.is) s2.put_bytes-in-None.ensures
+    under _ (ap mode_text c.in-None.is) c.put_bytes-in-None.ensures

@@ -14,10 +14,7 @@ returns-then-place-was c =
 pub returns : goal.returns
 unfolding becomes_text move_text
 returns c =
-    let s2 = c.before.before in
-    let s10 = s2.before.before.before.before.before.before.before.before in
-    let s13 = s10.before.before.before in
-    let e1 = s10.put_numbered-to.ensures in
-    let e2 = one _ _ s2.put_by_place.ensures in
+    let e1 = c.put_numbered-to.ensures in
+    let e2 = one _ _ c.put_by_place.ensures in
     let r = further _ _ _ e1 e2 in
-    named _ (rw (ne_eqb _ _ s13.if-place-was.false) refl) r
+    named _ (rw (ne_eqb _ _ c.if-place-was.false) refl) r

@@ -9,10 +9,7 @@ use Rattle.tape_story.proofs.put_rate.Goals as goal
 pub returns : goal.returns
 unfolding rate_text
 returns c =
-    let s2 = c.before.before in
-    let s6 = s2.before.before.before.before in
-    let s9 = s6.before.before.before in
-    let e1 = one _ _ s6.put_bytes-to.ensures in
-    let e2 = named _ (ap (λ (y¹ : ℕ). thousandths_text y¹) s9.thousandths-n.ensures) s2.put_thousandths.ensures in
+    let e1 = one _ _ c.put_bytes-to.ensures in
+    let e2 = named _ (ap (λ (y¹ : ℕ). thousandths_text y¹) c.thousandths-n.ensures) c.put_thousandths.ensures in
     let r = further _ _ _ e1 e2 in
     r

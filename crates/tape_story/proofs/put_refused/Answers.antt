@@ -13,12 +13,8 @@ returns-then-refusal-eq0 c = rw (eq-eqb _ _ c.if-refusal-eq0.true) refl
 pub returns : goal.returns
 unfolding refused_text
 returns c =
-    let s2 = c.before.before in
-    let s6 = s2.before.before.before.before in
-    let s9 = s6.before.before.before in
-    let s11 = s9.before.before in
-    let a = s11.args in
-    let e1 = one _ _ s6.put_bytes-to.ensures in
-    let e2 = s2.put_refusal.ensures in
+    let a = c.args in
+    let e1 = one _ _ c.put_bytes-to.ensures in
+    let e2 = c.put_refusal.ensures in
     let r = further _ _ _ e1 e2 in
-    named _ (rw (ne_eqb _ _ s9.if-refusal-eq0.false) refl) r
+    named _ (rw (ne_eqb _ _ c.if-refusal-eq0.false) refl) r

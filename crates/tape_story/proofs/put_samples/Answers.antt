@@ -13,12 +13,8 @@ returns-then-not-heard c =
 pub returns : goal.returns
 unfolding samples_text
 returns c =
-    let s2 = c.before.before in
-    let s6 = s2.before.before.before.before in
-    let s11 = s6.before.before.before.before.before in
-    let s14 = s11.before.before.before in
-    let e1 = s11.put_numbered-to.ensures in
-    let e2 = one _ _ s6.put_bytes-to.ensures in
-    let e3 = s2.put_peak.ensures in
+    let e1 = c.put_numbered-to.ensures in
+    let e2 = one _ _ c.put_bytes-to.ensures in
+    let e3 = c.put_peak.ensures in
     let r = further _ _ _ e1 (further _ _ _ e2 e3) in
-    named _ (rw s14.if-not-heard.false-raw refl) r
+    named _ (rw c.if-not-heard.false-raw refl) r

@@ -5,61 +5,49 @@ use Rattle.tape_tracks.proofs.answer_of.Goals as goal
 pub returns-in-Edit : goal.returns-in-Edit
 unfolding edit_answer_of
 returns-in-Edit c =
-    let s2 = c.before.before in
-    let s4 = s2.before.before in
-    c.edit_answer.ensures ∙ sym (ap (edit_answer_of s4.args.s) s2.in-Edit.is)
+    c.edit_answer.ensures ∙ sym (ap (edit_answer_of c.args.s) c.in-Edit.is)
 
 pub returns-in-EditRelative : goal.returns-in-EditRelative
 unfolding edit_answer_of
 returns-in-EditRelative c =
-    let s2 = c.before.before in
-    let s4 = s2.before.before in
-    c.edit_answer-in-EditRelative.ensures ∙ sym (ap (edit_answer_of s4.args.s) s2.in-EditRelative.is)
+    c.edit_answer-in-EditRelative.ensures ∙ sym (ap (edit_answer_of c.args.s) c.in-EditRelative.is)
 
 pub returns-in-Create : goal.returns-in-Create
 unfolding edit_answer_of
 returns-in-Create c =
-    let s2 = c.before.before in
-    sym (ap (edit_answer_of s2.args.s) c.in-Create.is)
+    sym (ap (edit_answer_of c.args.s) c.in-Create.is)
 
 pub returns-in-Push : goal.returns-in-Push
 unfolding edit_answer_of
 returns-in-Push c =
-    let s2 = c.before.before in
-    sym (ap (edit_answer_of s2.args.s) c.in-Push.is)
+    sym (ap (edit_answer_of c.args.s) c.in-Push.is)
 
 pub returns-in-PushRelative : goal.returns-in-PushRelative
 unfolding edit_answer_of
 returns-in-PushRelative c =
-    let s2 = c.before.before in
-    sym (ap (edit_answer_of s2.args.s) c.in-PushRelative.is)
+    sym (ap (edit_answer_of c.args.s) c.in-PushRelative.is)
 
 pub returns-in-PushDuration : goal.returns-in-PushDuration
 unfolding edit_answer_of
 returns-in-PushDuration c =
-    let s2 = c.before.before in
-    sym (ap (edit_answer_of s2.args.s) c.in-PushDuration.is)
+    sym (ap (edit_answer_of c.args.s) c.in-PushDuration.is)
 
 pub returns-in-Tick : goal.returns-in-Tick
 unfolding edit_answer_of
 returns-in-Tick c =
-    let s2 = c.before.before in
-    sym (ap (edit_answer_of s2.args.s) c.in-Tick.is)
+    sym (ap (edit_answer_of c.args.s) c.in-Tick.is)
 
 pub returns-in-Process : goal.returns-in-Process
 unfolding edit_answer_of
 returns-in-Process c =
-    let s2 = c.before.before in
-    sym (ap (edit_answer_of s2.args.s) c.in-Process.is)
+    sym (ap (edit_answer_of c.args.s) c.in-Process.is)
 
 pub returns-in-Reset : goal.returns-in-Reset
 unfolding edit_answer_of
 returns-in-Reset c =
-    let s2 = c.before.before in
-    sym (ap (edit_answer_of s2.args.s) c.in-Reset.is)
+    sym (ap (edit_answer_of c.args.s) c.in-Reset.is)
 
 pub returns-in-SetSampleRate : goal.returns-in-SetSampleRate
 unfolding edit_answer_of
 returns-in-SetSampleRate c =
-    let s2 = c.before.before in
-    sym (ap (edit_answer_of s2.args.s) c.in-SetSampleRate.is)
+    sym (ap (edit_answer_of c.args.s) c.in-SetSampleRate.is)

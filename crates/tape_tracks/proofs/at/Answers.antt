@@ -4,5 +4,4 @@ use Rattle.tape_tracks.proofs.at.Goals as goal
 
 pub returns-else-i-row : goal.returns-else-i-row
 returns-else-i-row c =
-    let s1 = c.before in
-    let a = s1.args in sym (none_there a.row.now a.i 0 c.if-i-row.false)
+    let a = c.args in sym (none_there a.row.now a.i 0 c.if-i-row.false)

@@ -5,14 +5,12 @@ use Rattle.tape_tracks.proofs.edited.Goals as goal
 pub returns-in-Edit : goal.returns-in-Edit
 unfolding edited_number
 returns-in-Edit c =
-    let s2 = c.before.before in
-    sym (ap edited_number s2.in-Edit.is)
+    sym (ap edited_number c.in-Edit.is)
 
 pub returns-in-EditRelative : goal.returns-in-EditRelative
 unfolding edited_number
 returns-in-EditRelative c =
-    let s2 = c.before.before in
-    sym (ap edited_number s2.in-EditRelative.is)
+    sym (ap edited_number c.in-EditRelative.is)
 
 pub returns-in-Create : goal.returns-in-Create
 unfolding edited_number

@@ -9,11 +9,9 @@ returns-then-place-eq-LET_GO c = rw (eq-eqb _ _ c.if-place-eq-LET_GO.true) refl
 pub returns-then-count-lt256 : goal.returns-then-count-lt256
 unfolding next_place
 returns-then-count-lt256 c =
-    let s1 = c.before in
-    rw (ne_eqb _ _ s1.if-place-eq-LET_GO.false, lt-ltb _ _ c.if-count-lt256.true) refl
+    rw (ne_eqb _ _ c.if-place-eq-LET_GO.false, lt-ltb _ _ c.if-count-lt256.true) refl
 
 pub returns-else-count-lt256 : goal.returns-else-count-lt256
 unfolding next_place
 returns-else-count-lt256 c =
-    let s1 = c.before in
-    rw (ne_eqb _ _ s1.if-place-eq-LET_GO.false, le-ltb _ _ c.if-count-lt256.false) refl
+    rw (ne_eqb _ _ c.if-place-eq-LET_GO.false, le-ltb _ _ c.if-count-lt256.false) refl

@@ -5,8 +5,7 @@ use Rattle.tape_tracks.proofs.one_more_if.Goals as goal
 pub returns-then-laid : goal.returns-then-laid
 unfolding one_more
 returns-then-laid c =
-    let s1 = c.before in
-    rw s1.if-laid.true c.wrapping_add_u64.ensures
+    rw c.if-laid.true c.wrapping_add_u64.ensures
 
 pub returns : goal.returns
 unfolding one_more

@@ -5,8 +5,7 @@ use Rattle.tape_tracks.proofs.place_if.Goals as goal
 pub returns-then-laid : goal.returns-then-laid
 unfolding entered_at
 returns-then-laid c =
-    let s1 = c.before in
-    rw s1.if-laid.true c.stands.ensures
+    rw c.if-laid.true c.stands.ensures
 
 pub returns : goal.returns
 unfolding entered_at

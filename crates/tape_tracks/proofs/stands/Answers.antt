@@ -5,23 +5,19 @@ use Rattle.tape_tracks.proofs.stands.Goals as goal
 pub returns-in-Waiting : goal.returns-in-Waiting
 unfolding number_of stands_at
 returns-in-Waiting c =
-    let s2 = c.before.before in
-    ap number_of (sym c.in-Waiting.is ∙ s2.standing_of-where_.ensures)
+    ap number_of (sym c.in-Waiting.is ∙ c.standing_of-where_.ensures)
 
 pub returns-in-Sounding : goal.returns-in-Sounding
 unfolding number_of stands_at
 returns-in-Sounding c =
-    let s2 = c.before.before in
-    ap number_of (sym c.in-Sounding.is ∙ s2.standing_of-where_.ensures)
+    ap number_of (sym c.in-Sounding.is ∙ c.standing_of-where_.ensures)
 
 pub returns-in-Finished : goal.returns-in-Finished
 unfolding number_of stands_at
 returns-in-Finished c =
-    let s2 = c.before.before in
-    ap number_of (sym c.in-Finished.is ∙ s2.standing_of-where_.ensures)
+    ap number_of (sym c.in-Finished.is ∙ c.standing_of-where_.ensures)
 
 pub returns-in-LetGo : goal.returns-in-LetGo
 unfolding number_of stands_at
 returns-in-LetGo c =
-    let s2 = c.before.before in
-    ap number_of (sym c.in-LetGo.is ∙ s2.standing_of-where_.ensures)
+    ap number_of (sym c.in-LetGo.is ∙ c.standing_of-where_.ensures)

@@ -8,34 +8,22 @@ use Rattle.tape_words.proofs.put_by_place.Goals as goal
 
 pub returns-in-0 : goal.returns-in-0
 returns-in-0 c =
-    let s2 = c.before.before in
-    let s4 = s2.before.before in
-    let s10 = s4.before.before.before.before.before.before in
-    let a = s10.args in
-    under _ (ap (λ (p : ℕ). by_place p a.waiting.now a.sounding.now a.finished.now a.let_go.now) s4.in-0.is) s2.put_bytes.ensures
+    let a = c.args in
+    under _ (ap (λ (p : ℕ). by_place p a.waiting.now a.sounding.now a.finished.now a.let_go.now) c.in-0.is) c.put_bytes.ensures
 
 pub returns-in-1 : goal.returns-in-1
 returns-in-1 c =
-    let s2 = c.before.before in
-    let s4 = s2.before.before in
-    let s10 = s4.before.before.before.before.before.before in
-    let a = s10.args in
-    under _ (ap (λ (p : ℕ). by_place p a.waiting.now a.sounding.now a.finished.now a.let_go.now) s4.in-1.is) s2.put_bytes-in-1.ensures
+    let a = c.args in
+    under _ (ap (λ (p : ℕ). by_place p a.waiting.now a.sounding.now a.finished.now a.let_go.now) c.in-1.is) c.put_bytes-in-1.ensures
 
 pub returns-in-2 : goal.returns-in-2
 returns-in-2 c =
-    let s2 = c.before.before in
-    let s4 = s2.before.before in
-    let s10 = s4.before.before.before.before.before.before in
-    let a = s10.args in
-    under _ (ap (λ (p : ℕ). by_place p a.waiting.now a.sounding.now a.finished.now a.let_go.now) s4.in-2.is) s2.put_bytes-in-2.ensures
+    let a = c.args in
+    under _ (ap (λ (p : ℕ). by_place p a.waiting.now a.sounding.now a.finished.now a.let_go.now) c.in-2.is) c.put_bytes-in-2.ensures
 
 pub returns-in_default : goal.returns-in_default
 returns-in_default c =
-    let s2 = c.before.before in
-    let s4 = s2.before.before in
-    let s10 = s4.before.before.before.before.before.before in
-    let a = s10.args in
-    let r = s4.in_default.rest in
+    let a = c.args in
+    let r = c.in_default.in_default-own.rest in
     let e : by_place a.place a.waiting.now a.sounding.now a.finished.now a.let_go.now ≡ a.let_go.now = simp (ne_eqb _ _ r.1, ne_eqb _ _ r.0.1, ne_eqb _ _ r.0.0.1) in
-    under _ e s2.put_bytes-in_default.ensures
+    under _ e c.put_bytes-in_default.ensures

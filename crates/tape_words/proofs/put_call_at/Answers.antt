@@ -6,9 +6,7 @@ use Rattle.tape_words.proofs.put_call_at.Goals as goal
 pub returns : goal.returns
 unfolding call_at
 returns c =
-    let s2 = c.before.before in
-    let s7 = s2.before.before.before.before.before in
-    let e1 = s7.put_call-to.ensures in
-    let e2 = s2.put_timed.ensures in
+    let e1 = c.put_call-to.ensures in
+    let e2 = c.put_timed.ensures in
     let r = further _ _ _ e1 e2 in
     r

@@ -4,12 +4,8 @@ use Rattle.tape_words.proofs.put_either.Goals as goal
 
 pub returns-then-holds : goal.returns-then-holds
 returns-then-holds c =
-    let s2 = c.before.before in
-    let s4 = s2.before.before in
-    rw s4.if-holds.true s2.put_bytes.ensures
+    rw c.if-holds.true c.put_bytes.ensures
 
 pub returns : goal.returns
 returns c =
-    let s2 = c.before.before in
-    let s4 = s2.before.before in
-    rw s4.if-holds.false s2.put_bytes-2.ensures
+    rw c.if-holds.false c.put_bytes-2.ensures

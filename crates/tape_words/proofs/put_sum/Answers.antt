@@ -9,20 +9,12 @@ use Rattle.tape_words.proofs.put_sum.Goals as goal
 pub returns : goal.returns
 unfolding sum_text
 returns c =
-    let s2 = c.before.before in
-    let s7 = s2.before.before.before.before.before in
-    let s12 = s7.before.before.before.before.before in
-    let s17 = s12.before.before.before.before.before in
-    let s22 = s17.before.before.before.before.before in
-    let s26 = s22.before.before.before.before in
-    let s32 = s26.before.before.before.before.before.before in
-    let s34 = s32.before.before in
-    let e1 = one _ _ s32.put_decimal-to.ensures in
-    let e2 = named _ (ap (λ (b : Bool). equals_text b ∷ []) s34.is_sum-good.ensures) (one _ _ s26.put_either-to.ensures) in
-    let e3 = one _ _ s22.put_decimal-to-2.ensures in
-    let e4 = s17.put_numbered-to.ensures in
-    let e5 = s12.put_numbered-to-2.ensures in
-    let e6 = s7.put_numbered-to-3.ensures in
-    let e7 = one _ _ s2.put_bytes.ensures in
+    let e1 = one _ _ c.put_decimal-to.ensures in
+    let e2 = named _ (ap (λ (b : Bool). equals_text b ∷ []) c.is_sum-good.ensures) (one _ _ c.put_either-to.ensures) in
+    let e3 = one _ _ c.put_decimal-to-2.ensures in
+    let e4 = c.put_numbered-to.ensures in
+    let e5 = c.put_numbered-to-2.ensures in
+    let e6 = c.put_numbered-to-3.ensures in
+    let e7 = one _ _ c.put_bytes.ensures in
     let r = further _ _ _ e1 (further _ _ _ e2 (further _ _ _ e3 (further _ _ _ e4 (further _ _ _ e5 (further _ _ _ e6 e7))))) in
     r

@@ -24,14 +24,14 @@ returns-then-kind-eq7 c = simp (le-ltb _ _ c.if-kind-gt12.false, ne_eqb _ _ c.if
 pub returns-then-a-gt1 : goal.returns-then-a-gt1
 unfolding undefined_by
 returns-then-a-gt1 c =
-    let d = c.before.before in
+    let d = c.before in
     let b = d.before.before in
     simp (le-ltb _ _ b.if-kind-gt12.false, ne_eqb _ _ b.if-kind-eq0.false, ne_eqb _ _ b.if-kind-eq7.false, sym d.is_push.ensures ∙ d.if-is_push.true, lt-ltb _ _ c.if-a-gt1.true)
 
 pub returns-then-is_push : goal.returns-then-is_push
 unfolding undefined_by
 returns-then-is_push c =
-    let d = c.before.before.before in
+    let d = c.before in
     let b = d.before.before in
     simp (le-ltb _ _ b.if-kind-gt12.false, ne_eqb _ _ b.if-kind-eq0.false, ne_eqb _ _ b.if-kind-eq7.false, sym d.is_push.ensures ∙ d.if-is_push.true, le-ltb _ _ c.if-a-gt1.false)
 

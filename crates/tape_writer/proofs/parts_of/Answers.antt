@@ -15,7 +15,7 @@ returns-then-k-eq0 c = simp (sym c.plain_kind-k.ensures ∙ c.if-k-eq0.true) (cr
 pub returns-then-k-lt4 : goal.returns-then-k-lt4
 unfolding bytes_by body_parts
 returns-then-k-lt4 c =
-    let times = c.before.before.before in
+    let times = c.before in
     let gain = times.before in
     let bits = gain.before in
     let second = bits.before in
@@ -42,7 +42,7 @@ returns-then-k-lt4 c =
 pub returns-then-k-lt6 : goal.returns-then-k-lt6
 unfolding bytes_by body_parts
 returns-then-k-lt6 c =
-    let b = c.before.before.before.before in
+    let b = c.before in
     simp (sym b.plain_kind-k.ensures, ne_eqb _ _ b.if-k-eq0.false, le-ltb _ _ c.if-k-lt4.false, lt-ltb _ _ c.if-k-lt6.true, c.f64_to_bits-then-k-lt6.ensures, c.f64_to_bits-then-k-lt6-2.ensures)
     (edit-joined _ _ _ _)
 
@@ -57,6 +57,6 @@ returns-then-k-eq9 c = simp (sym c.plain_kind-k.ensures ∙ c.if-k-eq9.true, c.f
 pub returns : goal.returns
 unfolding bytes_by body_parts
 returns c =
-    let d = c.before.before.before in
+    let d = c.before in
     let b = d.before in
     simp (sym b.plain_kind-k.ensures, ne_eqb _ _ b.if-k-eq0.false, le-ltb _ _ d.if-k-lt4.false, le-ltb _ _ c.if-k-lt6.false, ne_eqb _ _ c.if-k-eq7.false, ne_eqb _ _ c.if-k-eq9.false) (bare-joined _)

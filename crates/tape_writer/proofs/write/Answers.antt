@@ -21,9 +21,9 @@ returns-then-buf-at c = let r = refused-19 _ _ _ (sym c.is_undefined.ensures ∙
 
 pub returns-then-buf-at-2 : goal.returns-then-buf-at-2
 returns-then-buf-at-2 c =
-    let n = c.before.before in
+    let n = c.before in
     let a = n.args in
-    let k : length a.buf.now - a.at < _ = subst (λ (m : ℕ). length a.buf.now - a.at < m) n.type_size.ensures c.if-buf-at-2.true in
+    let k : length a.buf.now - a.at < _ = subst (λ (m : ℕ). length a.buf.now - a.at < m) n.size_of-n.ensures c.if-buf-at-2.true in
     let r = refused-19 _ _ _ (sym n.is_undefined.ensures ∙ n.if-is_undefined.false) (short_rest _ _ _ c.if-buf-at.false k) in
     record { answer = sym r.0; lent = sym r.1 }
 
@@ -32,7 +32,7 @@ parts_of-p-requires c = kind_known _ _ (sym c.is_undefined.ensures ∙ c.if-is_u
 
 pub returns : goal.returns
 returns c =
-    let n = c.before.before.before.before.before.before.before.before.before.before.before in
+    let n = c.before in
     let a = n.args.a in
     let at = n.args.at in
     let buf = n.args.buf.now in
@@ -40,6 +40,6 @@ returns c =
     let long = long_as a.kind a (kind_known a.kind a known) in
     let k = c.if-buf-at-2.false in
     let h = c.if-buf-at.false in
-    let r = accepted a buf at known (enough_rest _ _ _ h (subst (λ (m : ℕ). m ≤ length buf - at) n.type_size.ensures k)) in
-    let bytes = fields_laid buf _ _ (bytes_of a) _ at n.type_size.result (omega (arith, k, h)) c.parts_of-p.ensures (long ∙ sym n.type_size.ensures) c.put_fields.ensures.lent in
-    record { answer = ap (λ (m : ℕ). Next (at + m)) n.type_size.ensures ∙ sym r.0; lent = bytes ∙ sym r.1 }
+    let r = accepted a buf at known (enough_rest _ _ _ h (subst (λ (m : ℕ). m ≤ length buf - at) n.size_of-n.ensures k)) in
+    let bytes = fields_laid buf _ _ (bytes_of a) _ at n.size_of-n.result (omega (arith, k, h)) c.parts_of-p.ensures (long ∙ sym n.size_of-n.ensures) c.put_fields.ensures.lent in
+    record { answer = ap (λ (m : ℕ). Next (at + m)) n.size_of-n.ensures ∙ sym r.0; lent = bytes ∙ sym r.1 }

@@ -7,4 +7,6 @@ use Rattle.chakaqel.proofs.edits.chakaqel_edit.Goals as goal
 pub returns : goal.returns
 returns c =
     let a = c.args in
-    answered-entry (cells_of a.times.now a.levels.now a.marks.now a.numbers.now) _ _ _ _ c.edit-answer.ensures _ c.code_of_lem.ensures
+    let e = c.edit-answer.ensures in
+    let r = answered-entry (cells_of a.times.now a.levels.now a.marks.now a.numbers.now) _ _ _ _ (e.engine, (e.answer, e.refused)) _ c.code_of.ensures in
+    record { engine = r.0; answer = r.1.0; refused = r.1.1 }

@@ -8,7 +8,7 @@ use borrow.Author.Rules.{rules}
 use Rattle.chakaqel.proofs.pushes.chakaqel_push_duration.Goals as goal
 
 pub returns-then-unknown_voice : goal.returns-then-unknown_voice
-returns-then-unknown_voice c = rw (sym c.unknown_voice.ensures ∙ c.if-unknown_voice.true) (refl, (refl, (refl, λ h. refl)))
+returns-then-unknown_voice c = rw (sym c.unknown_voice.ensures ∙ c.if-unknown_voice.true) (record { engine = refl; answer = refl; told = refl; refused = λ h. refl })
 
 pub returns : goal.returns
 returns c =
@@ -16,6 +16,9 @@ returns c =
     let known = sym c.unknown_voice.ensures ∙ c.if-unknown_voice.false in
     let curve = c.curve_of.ensures in
     let source = c.source_of.ensures in
-    pushed-entry by_duration (cells_of a.times.now a.levels.now a.marks.now a.numbers.now) _ (unknown_voice a.curve a.source) known
+    let e = c.push_duration-pushed.ensures in
+    let t = c.tell_push.ensures in
+    let r = pushed-entry by_duration (cells_of a.times.now a.levels.now a.marks.now a.numbers.now) _ (unknown_voice a.curve a.source) known
     (curve_of a.curve) _ curve (source_in a.source a.a a.b a.offset a.length) _ source
-    a.start-time a.duration a.fade_in a.fade_out a.gain _ _ c.push_duration-pushed.ensures _ a.told.now _ c.tell_push.ensures
+    a.start_time a.duration a.fade_in a.fade_out a.gain _ _ (e.engine, (e.answer, (e.rise, e.refused))) _ a.told.now _ (t.code, t.told) in
+    record { engine = r.0; answer = r.1.0; told = r.1.1.0; refused = r.1.1.1 }

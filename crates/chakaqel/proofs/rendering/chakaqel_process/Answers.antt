@@ -8,11 +8,14 @@ use borrow.Author.Rules.{rules}
 use Rattle.chakaqel.proofs.rendering.chakaqel_process.Goals as goal
 
 pub returns-then-mark-gt1 : goal.returns-then-mark-gt1
-returns-then-mark-gt1 c = rw (lt-ltb _ _ c.if-mark-gt1.true) (refl, (refl, (refl, (refl, λ h. refl))))
+returns-then-mark-gt1 c = rw (lt-ltb _ _ c.if-mark-gt1.true) (record { engine = refl; samples = refl; answer = refl; places = refl; refused = λ h. refl })
 
 pub returns : goal.returns
 returns c =
     let a = c.args in
     let known = le-ltb _ _ c.if-mark-gt1.false in
-    rendered-entry (cells_of a.times.now a.levels.now a.marks.now a.numbers.now) _ (unknown_mark a.mark) known (order_of a.mark) _
-    c.order_of_lem.ensures a.pool.now a.size a.out.now _ _ c.process-answer.ensures _ a.places.now _ c.tell_block.ensures
+    let e = c.process-answer.ensures in
+    let t = c.tell_block.ensures in
+    let r = rendered-entry (cells_of a.times.now a.levels.now a.marks.now a.numbers.now) _ (unknown_mark a.mark) known (order_of a.mark) _
+    c.order_of.ensures a.pool.now a.size a.out.now _ _ (e.engine, (e.samples, (e.answer, e.refused))) _ a.places.now _ (t.code, t.places) in
+    record { engine = r.0; samples = r.1.0; answer = r.1.1.0; places = r.1.1.1.0; refused = r.1.1.1.1 }

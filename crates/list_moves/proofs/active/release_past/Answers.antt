@@ -12,4 +12,4 @@ returns-then-numbers-eq0 c =
 pub returns : goal.returns
 returns c =
     let a = c.args in
-    let_go (cells_of a.times.now a.levels.now a.marks.now a.numbers.now) _ c.sized.ensures (ne_eqb _ 0 c.if-numbers-eq0.false) c.wrapping_add_u64.ensures
+    let_go (cells_of a.times.now a.levels.now a.marks.now a.numbers.now) _ c.sized.ensures (ne_eqb _ 0 c.if-numbers-eq0.false) c.wrapping_add_u64.ensures.value

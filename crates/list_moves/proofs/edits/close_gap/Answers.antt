@@ -27,7 +27,7 @@ loop-j-preserved c =
 
 pub returns : goal.returns
 returns c =
-    let l = c.loop in
+    let l = c.loop-j in
     let v = l.invariant in
     let here = cells_of l.times c.args.levels.now c.args.marks.now l.numbers in
-    closed _ here v.0 _ _ _ v.3 c.loop-test.false c.args.at refl (ap (λ (k : ℕ). k - 1) c.requires.2)
+    closed _ here v.0 _ _ _ v.3 c.loop-j-test.false c.args.at refl (ap (λ (k : ℕ). k - 1) c.requires.2)

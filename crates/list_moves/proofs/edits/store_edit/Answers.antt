@@ -14,16 +14,16 @@ pub returns-then-n-ge-ROOM : goal.returns-then-n-ge-ROOM
 returns-then-n-ge-ROOM c =
     let a = c.args in
     let here = cells_of a.times.now a.levels.now a.marks.now a.numbers.now in
-    (stores_none here a.id _ c.find_edit-found.ensures c.sized.ensures a.edit.end_time a.edit.fade_out c.in-Nothing.is _ refl c.if-n-ge-ROOM.true, (room-none here a.id _ c.find_edit-found.ensures c.in-Nothing.is _ refl c.if-n-ge-ROOM.true, λ h. refl))
+    record { engine = stores_none here a.id _ c.find_edit-found.ensures c.sized.ensures a.edit.end_time a.edit.fade_out c.in-Nothing.is _ refl c.if-n-ge-ROOM.true; full = room-none here a.id _ c.find_edit-found.ensures c.in-Nothing.is _ refl c.if-n-ge-ROOM.true; refused = λ h. refl }
 
 pub returns-in-At : goal.returns-in-At
 returns-in-At c =
     let a = c.args in
     let here = cells_of a.times.now a.levels.now a.marks.now a.numbers.now in
-    (ap engine_of c.put_edit.ensures ∙ stores_again here a.id _ c.find_edit-found.ensures c.sized.ensures a.edit.end_time a.edit.fade_out _ c.in-At.is, (room-again here a.id _ c.find_edit-found.ensures _ _ c.in-At.is, λ h. absurd (true≢false (sym h))))
+    record { engine = ap engine_of c.put_edit.ensures ∙ stores_again here a.id _ c.find_edit-found.ensures c.sized.ensures a.edit.end_time a.edit.fade_out _ c.in-At.is; full = room-again here a.id _ c.find_edit-found.ensures _ _ c.in-At.is; refused = λ h. absurd (true≢false (sym h)) }
 
 pub returns-else-n-ge-ROOM : goal.returns-else-n-ge-ROOM
 returns-else-n-ge-ROOM c =
     let a = c.args in
     let here = cells_of a.times.now a.levels.now a.marks.now a.numbers.now in
-    (stores_new here a.id _ c.find_edit-found.ensures c.sized.ensures a.edit.end_time a.edit.fade_out c.in-Nothing.is _ refl c.if-n-ge-ROOM.false _ c.put_edit-in-Nothing.ensures, (room-left here a.id _ c.find_edit-found.ensures c.in-Nothing.is _ refl c.if-n-ge-ROOM.false, λ h. absurd (true≢false (sym h))))
+    record { engine = stores_new here a.id _ c.find_edit-found.ensures c.sized.ensures a.edit.end_time a.edit.fade_out c.in-Nothing.is _ refl c.if-n-ge-ROOM.false _ c.put_edit-in-Nothing.ensures; full = room-left here a.id _ c.find_edit-found.ensures c.in-Nothing.is _ refl c.if-n-ge-ROOM.false; refused = λ h. absurd (true≢false (sym h)) }

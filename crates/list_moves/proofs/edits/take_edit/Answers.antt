@@ -10,7 +10,7 @@ use Rattle.list_moves.proofs.edits.take_edit.Goals as goal
 pub edit_at-edit-requires : goal.edit_at-edit-requires
 edit_at-edit-requires c =
     let a = c.args in
-    let h = found-place (cells_of a.times.now a.levels.now a.marks.now a.numbers.now) a.event.id _ c.find-edit.ensures _ c.found.given.1 in
+    let h = found-place (cells_of a.times.now a.levels.now a.marks.now a.numbers.now) a.event.id _ c.find_edit-found.ensures _ c.in-At.is in
     omega (arith, h.0, h.1)
 
 pub close_gap-requires : goal.close_gap-requires
@@ -24,9 +24,11 @@ pub returns-in-At : goal.returns-in-At
 returns-in-At c =
     let a = c.args in
     let here = cells_of a.times.now a.levels.now a.marks.now a.numbers.now in
-    takes here a.event.id _ c.find_edit-found.ensures a.event _ c.in-At.is _ c.close_gap.ensures _ (c.edited.ensures ∙ ap (λ (d : Edit). edited_by d a.event) c.edit_at-edit.ensures)
+    let r = takes here a.event.id _ c.find_edit-found.ensures a.event _ c.in-At.is _ c.close_gap.ensures _ (c.edited.ensures ∙ ap (λ (d : Edit). edited_by d a.event) c.edit_at-edit.ensures) in
+    record { engine = r.0; answer = r.1 }
 
 pub returns-in-Nothing : goal.returns-in-Nothing
 returns-in-Nothing c =
     let a = c.args in
-    takes_none (cells_of a.times.now a.levels.now a.marks.now a.numbers.now) a.event.id _ c.find_edit-found.ensures a.event c.in-Nothing.is
+    let r = takes_none (cells_of a.times.now a.levels.now a.marks.now a.numbers.now) a.event.id _ c.find_edit-found.ensures a.event c.in-Nothing.is in
+    record { engine = r.0; answer = r.1 }

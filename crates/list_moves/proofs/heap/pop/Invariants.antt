@@ -7,7 +7,7 @@ use Rattle.list_moves.proofs.Rising.{last-is, sinks_on, pops, none-pops, beyond-
 use Rattle.list_moves.proofs.heap.pop.Given as goal
 
 abbrev pub invariant-loop-i : goal.invariant-loop-i
-invariant-loop-i l = (let s = engine_of (cells_of l.initial.l.times l.initial.l.levels l.initial.l.marks l.initial.l.numbers) in
+invariant-loop-i l = (let s = engine_of (cells_of l.initial.times l.initial.levels l.initial.marks l.initial.numbers) in
     Sized (cells_of l.times l.levels l.marks l.numbers) × SinkingIn s l.i (engine_of (cells_of l.times l.levels l.marks l.numbers)) × (l.m ≡ last_place s) × (l.last ≡ last_of s) × (l.m < 256) × (l.i ≤ l.m) × (0 < s.ready_len) × (s.ready_len ≤ 256))
 
 abbrev pub decreases-loop-i : goal.decreases-loop-i

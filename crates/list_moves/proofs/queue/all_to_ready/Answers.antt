@@ -13,15 +13,15 @@ pub loop-k-init : goal.loop-k-init
 loop-k-init c = (omega (arith, c.least-past.ensures), omega (arith, c.least.ensures), record { fuel = c.least-past.result + c.least.result; exact = omega arith; gives = refl })
 
 pub held_event-event-requires : goal.held_event-event-requires
-held_event-event-requires c = let l = c.loop.invariant in let t = c.loop-test.true in (l.0, omega (arith, l.1))
+held_event-event-requires c = let l = c.loop-k.invariant in let t = c.loop-k-test.true in (l.0, omega (arith, l.1))
 
 pub loop-k-preserved : goal.loop-k-preserved
 loop-k-preserved c =
-    let l = c.loop in
-    (l.invariant.0, l.invariant.1, readying_on _ _ _ _ _ _ _ c.held_event-event.ensures c.wait.ensures.engine c.loop-test.true l.invariant.2)
+    let l = c.loop-k in
+    (l.invariant.0, l.invariant.1, readying_on _ _ _ _ _ _ _ c.held_event-event.ensures c.wait.ensures.engine c.loop-k-test.true l.invariant.2)
 
 pub returns : goal.returns
 returns c =
     let a = c.args in
     let c₀ = cells_of a.times.now a.levels.now a.marks.now a.numbers.now in
-    c.clear_lists.ensures ∙ readied_all (engine_of c₀) (c.least.ensures ∙ ap (λ (m : ℕ). min m 256) (counts_are c₀).2) (c.least2.ensures ∙ ap (λ (m : ℕ). min m 256) (counts_are c₀).1) refl c.loop-test.false c.loop.invariant.2
+    c.clear_lists.ensures ∙ readied_all (engine_of c₀) (c.least-past.ensures ∙ ap (λ (m : ℕ). min m 256) (counts_are c₀).2) (c.least.ensures ∙ ap (λ (m : ℕ). min m 256) (counts_are c₀).1) refl c.loop-k-test.false c.loop-k.invariant.2

@@ -13,10 +13,10 @@ loop-k-init c =
 
 pub loop-k-preserved : goal.loop-k-preserved
 loop-k-preserved c =
-    let l = c.loop in
+    let l = c.loop-k in
     let a = c.args in
     let here = cells_of a.times.now l.levels l.marks a.numbers.now in
-    let r = rewinds_on _ _ l.k here l.invariant.1 _ _ (omega (arith, l.invariant.0)) c.loop-test.true c.event_at-event.ensures c.reset-unit.ensures l.invariant.2 _ c.put_unit.ensures in
+    let r = rewinds_on _ _ l.k here l.invariant.1 _ _ (omega (arith, l.invariant.0)) c.loop-k-test.true c.event_at-event.ensures c.reset-unit.ensures l.invariant.2 _ c.put_unit.ensures in
     (l.invariant.0, r.0, r.1)
 
 pub returns : goal.returns

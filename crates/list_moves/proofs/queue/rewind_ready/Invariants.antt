@@ -7,8 +7,8 @@ use Rattle.list_moves.proofs.Requeuing.{count_waits, rewinds_on, rewound-is}
 use Rattle.list_moves.proofs.queue.rewind_ready.Given as goal
 
 abbrev pub invariant-loop-k : goal.invariant-loop-k
-invariant-loop-k l = (l.n ≡ min (engine_of (cells_of l.times l.initial.l.levels l.initial.l.marks l.numbers)).ready_len 256) × Sized (cells_of l.times l.levels l.marks l.numbers)
-    × Rewinding (engine_of (cells_of l.times l.initial.l.levels l.initial.l.marks l.numbers)) l.n l.k (engine_of (cells_of l.times l.levels l.marks l.numbers))
+invariant-loop-k l = (l.n ≡ min (engine_of (cells_of l.times l.initial.levels l.initial.marks l.numbers)).ready_len 256) × Sized (cells_of l.times l.levels l.marks l.numbers)
+    × Rewinding (engine_of (cells_of l.times l.initial.levels l.initial.marks l.numbers)) l.n l.k (engine_of (cells_of l.times l.levels l.marks l.numbers))
 
 abbrev pub decreases-loop-k : goal.decreases-loop-k
 decreases-loop-k l = l.n - l.k

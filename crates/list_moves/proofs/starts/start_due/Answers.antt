@@ -1,5 +1,4 @@
 -- `list_moves::starts::start_due` meets its contract.
-use borrow.Author.Tests.{not-true, not-false}
 use Rattle.std.proofs.Common.{◌≡◌, ◌≤◌, refl, ◌∙◌, arith, rules}
 use Rattle.sequencer.specs.Moves.{ready_to_active}
 use Rattle.sequencer.specs.Turns.{Activating}
@@ -22,13 +21,13 @@ loop-n-init c =
 pub returns-then-not-times : goal.returns-then-not-times
 returns-then-not-times c =
     let l = c.loop-n in
-    begin-late (cells_of l.times l.levels l.marks l.numbers) _ l.n l.invariant.1 l.invariant.2 (not-true _ c.if-not-times.true-raw)
+    begin-late (cells_of l.times l.levels l.marks l.numbers) _ l.n l.invariant.1 l.invariant.2 c.if-not-times.true
 
 pub loop-n-preserved : goal.loop-n-preserved
 loop-n-preserved c =
     let l = c.loop-n in
     let v = l.invariant in
-    let r = begin_on (cells_of l.times l.levels l.marks l.numbers) _ l.n v.1 v.2 c.loop-n-test.true v.0 (not-false _ c.if-not-times.false-raw) _ c.start_first.ensures in
+    let r = begin_on (cells_of l.times l.levels l.marks l.numbers) _ l.n v.1 v.2 c.loop-n-test.true v.0 c.if-not-times.false _ c.start_first.ensures in
     (omega (arith, v.0), r.0, r.1)
 
 pub returns : goal.returns

@@ -10,4 +10,4 @@ pub returns : goal.returns
 returns c =
     let a = c.args in
     let here = cells_of a.times.now a.levels.now a.marks.now a.numbers.now in
-    begun_first here _ _ _ _ _ (c.event-at.ensures ∙ waits-read here 0 blank (omega arith)) c.take_edit-event.ensures.engine c.take_edit-event.ensures.answer c.pop.ensures c.append.ensures
+    begun_first here _ _ _ _ _ (c.event_at-first.ensures ∙ waits-read here 0 blank (omega arith)) c.take_edit-event.ensures.engine c.take_edit-event.ensures.answer c.pop.ensures c.append.ensures

@@ -49,7 +49,7 @@ shape_of-out-then-has_room c = same-long c.loop-i.invariant.put
 
 pub returns-then-has_room : goal.returns-then-has_room
 returns-then-has_room c =
-    let s = c.before.before in
+    let s = c.before in
     let a = s.args in
     let e = last_piece self _ _ _ c.loop-i.invariant c.loop-i-test.false refl in
     ap (text c.loop-i.out) e.1 ∙ added a.bytes.now a.out.now _ a.at (length a.bytes.now) refl (sym s.has_room.ensures ∙ s.if-has_room.true) e.0

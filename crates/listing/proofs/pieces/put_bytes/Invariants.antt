@@ -18,7 +18,7 @@ abbrev pub self : List ℕ → List ℕ
 self bytes = bytes
 
 abbrev pub invariant-loop-i : goal.invariant-loop-i
-invariant-loop-i l = Pieces self l.bytes l.initial.l.out l.at l.out l.to l.i
+invariant-loop-i l = Pieces self l.bytes l.initial.out l.at l.out l.to l.i
 
 abbrev pub decreases-loop-i : goal.decreases-loop-i
 decreases-loop-i l = length l.bytes - l.i

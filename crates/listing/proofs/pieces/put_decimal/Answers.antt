@@ -18,11 +18,11 @@ unfolding decimal
 counted n k e = ap (λ (j : ℕ). digits 10 j n) e
 
 pub put_digits-requires : goal.put_digits-requires
-put_digits-requires c = (omega arith, (omega arith, leb-true _ _ (sym c.has_room.ensures ∙ c.if-has_room.true)))
+put_digits-requires c = record { fact_1 = omega arith; fact_2 = omega arith; fact_3 = leb-true _ _ (sym c.has_room.ensures ∙ c.if-has_room.true) }
 
 pub overflow_add-result : goal.overflow_add-result
 overflow_add-result c =
-    let w = c.before.before.before.before in
+    let w = c.before in
     let a = w.args in
     let h : a.at + w.places-k.result ≤ length a.out.now = leb-true _ _ (sym w.has_room.ensures ∙ w.if-has_room.true) in
     let g = w.well_formed in
@@ -30,14 +30,14 @@ overflow_add-result c =
 
 pub returns-then-has_room : goal.returns-then-has_room
 returns-then-has_room c =
-    let w = c.before.before.before.before in
+    let w = c.before in
     let p = w.places-k in
     let a = w.args in
-    added (decimal a.n) a.out.now _ a.at p.result (p.ensures.0 ∙ sym (length-decimal a.n)) (sym w.has_room.ensures ∙ w.if-has_room.true)
-    (c.put_digits.ensures ∙ ap (sets a.out.now a.at) (counted a.n p.result p.ensures.0))
+    added (decimal a.n) a.out.now _ a.at p.result (p.ensures.value ∙ sym (length-decimal a.n)) (sym w.has_room.ensures ∙ w.if-has_room.true)
+    (c.put_digits.ensures ∙ ap (sets a.out.now a.at) (counted a.n p.result p.ensures.value))
 
 pub returns : goal.returns
 returns c =
     let p = c.places-k in
     let a = c.args in
-    left_out (decimal a.n) a.out.now a.at p.result (p.ensures.0 ∙ sym (length-decimal a.n)) (sym c.has_room.ensures ∙ c.if-has_room.false)
+    left_out (decimal a.n) a.out.now a.at p.result (p.ensures.value ∙ sym (length-decimal a.n)) (sym c.has_room.ensures ∙ c.if-has_room.false)

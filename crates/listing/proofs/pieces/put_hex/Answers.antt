@@ -11,11 +11,11 @@ use Rattle.listing.proofs.Lines.{length_digits}
 use Rattle.listing.proofs.pieces.put_hex.Goals as goal
 
 pub put_digits-requires : goal.put_digits-requires
-put_digits-requires c = (omega arith, (omega arith, leb-true _ _ (sym c.has_room.ensures ∙ c.if-has_room.true)))
+put_digits-requires c = record { fact_1 = omega arith; fact_2 = omega arith; fact_3 = leb-true _ _ (sym c.has_room.ensures ∙ c.if-has_room.true) }
 
 pub overflow_add-result : goal.overflow_add-result
 overflow_add-result c =
-    let w = c.before.before.before.before in
+    let w = c.before in
     let a = w.args in
     let h : a.at + a.width ≤ length a.out.now = leb-true _ _ (sym w.has_room.ensures ∙ w.if-has_room.true) in
     let g = w.well_formed in
@@ -23,7 +23,7 @@ overflow_add-result c =
 
 pub returns-then-has_room : goal.returns-then-has_room
 returns-then-has_room c =
-    let w = c.before.before.before.before in
+    let w = c.before in
     let a = w.args in
     added (digits 16 a.width a.n) a.out.now _ a.at a.width (sym (length_digits 16 a.width a.n)) (sym w.has_room.ensures ∙ w.if-has_room.true) c.put_digits.ensures
 

@@ -6,12 +6,12 @@ use Rattle.lists.proofs.EditMap.insert.Goals as goal
 pub offset_bounds-self-i : goal.offset_bounds-self-i
 offset_bounds-self-i c =
     let s = c.args in
-    let h = placed-inside s.t1 s.id c.in-At.i (sym c.place-found.ensures ∙ c.in-At.is) in omega arith
+    let h = placed-inside s.self s.id c.in-At.i (sym c.place-found.ensures ∙ c.in-At.is) in omega arith
 
 pub bounds-self-i : goal.bounds-self-i
 bounds-self-i c =
     let s = c.args in
-    let h = placed-inside s.t1 s.id c.in-At.i (sym c.place-found.ensures ∙ c.in-At.is) in omega arith
+    let h = placed-inside s.self s.id c.in-At.i (sym c.place-found.ensures ∙ c.in-At.is) in omega arith
 
 pub returns-in-At : goal.returns-in-At
 unfolding stored

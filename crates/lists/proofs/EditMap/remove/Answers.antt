@@ -8,13 +8,13 @@ use Rattle.lists.proofs.EditMap.remove.Goals as goal
 pub overflow_sub-m : goal.overflow_sub-m
 overflow_sub-m c =
     let s = c.args in
-    let h = placed-inside s.t1 s.id c.in-At.at (sym c.place-found.ensures ∙ c.in-At.is) in omega arith
+    let h = placed-inside s.self s.id c.in-At.at (sym c.place-found.ensures ∙ c.in-At.is) in omega arith
 
 pub loop-i-init : goal.loop-i-init
 loop-i-init c =
     let s = c.args in
-    let h = placed-inside s.t1 s.id c.in-At.at (sym c.place-found.ensures ∙ c.in-At.is) in
-    (omega arith, omega arith, record { fuel = s.t1.len - 1 - c.in-At.at; exact = omega arith; gives = refl })
+    let h = placed-inside s.self s.id c.in-At.at (sym c.place-found.ensures ∙ c.in-At.is) in
+    (omega arith, omega arith, record { fuel = s.self.len - 1 - c.in-At.at; exact = omega arith; gives = refl })
 
 pub loop-i-preserved : goal.loop-i-preserved
 loop-i-preserved c = (omega arith, omega arith, shifting_on no_edit _ _ _ _ c.loop-i-test.true c.loop-i.invariant.2)

@@ -5,8 +5,8 @@ use Rattle.live.proofs.creation.create.Goals as goal
 
 pub returns-then-refuses_creation : goal.returns-then-refuses_creation
 unfolding created
-returns-then-refuses_creation c = rw (sym c.refuses_creation.ensures ∙ c.if-refuses_creation.true) (c.fresh.ensures, refl)
+returns-then-refuses_creation c = rw (sym c.refuses_creation.ensures ∙ c.if-refuses_creation.true) (record { engine = c.fresh.ensures; answer = refl })
 
 pub returns : goal.returns
 unfolding created
-returns c = rw (sym c.refuses_creation.ensures ∙ c.if-refuses_creation.false) (c.fresh-2.ensures, refl)
+returns c = rw (sym c.refuses_creation.ensures ∙ c.if-refuses_creation.false) (record { engine = c.fresh-2.ensures; answer = refl })

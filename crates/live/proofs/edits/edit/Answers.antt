@@ -10,4 +10,6 @@ pub returns : goal.returns
 unfolding edit_end
 returns c =
     let a = c.args in
-    tells-edit (cells_of a.times.now a.levels.now a.marks.now a.numbers.now) absolute_end a.id a.end-time _ a.fade_out _ _ refl _ c.amend.ensures
+    let e = c.amend.ensures in
+    let r = tells-edit (cells_of a.times.now a.levels.now a.marks.now a.numbers.now) absolute_end a.id a.end_time _ a.fade_out _ _ refl _ (e.engine, (e.answer, e.refused)) in
+    record { engine = r.0; answer = r.1.0; refused = r.1.1 }

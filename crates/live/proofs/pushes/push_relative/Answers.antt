@@ -11,4 +11,6 @@ pub returns : goal.returns
 unfolding stated_end pushed_time
 returns c =
     let a = c.args in
-    pushed_in relative (cells_of a.times.now a.levels.now a.marks.now a.numbers.now) _ _ _ _ a.start-time a.end-time a.fade-ease a.fade_in a.fade_out a.source a.gain c.push_to.ensures
+    let e = c.push_to.ensures in
+    let r = pushed_in relative (cells_of a.times.now a.levels.now a.marks.now a.numbers.now) _ _ _ _ a.start_time a.end_time a.fade_ease a.fade_in a.fade_out a.source a.gain (e.engine, (e.answer, (e.rise, e.refused))) in
+    record { engine = r.0; answer = r.1.0; rise = r.1.1.0; refused = r.1.1.1 }

@@ -9,4 +9,4 @@ pub returns : goal.returns
 unfolding of_bits
 returns c =
     let a = c.args in
-    advanced_in (cells_of a.times.now a.levels.now a.marks.now a.numbers.now) _ _ _ _ c.sized.ensures c.release-past.ensures c.ready-to-active.ensures c.active-to-past.ensures
+    advanced_in (cells_of a.times.now a.levels.now a.marks.now a.numbers.now) _ _ _ _ c.sized.ensures c.release_past.ensures c.ready_to_active.ensures c.active_to_past.ensures

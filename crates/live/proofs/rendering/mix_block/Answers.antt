@@ -19,15 +19,15 @@ overflow_add-slot c = let l = c.loop-k.invariant.0 in let t = c.mix_place-slot.e
 
 pub loop-k-preserved : goal.loop-k-preserved
 loop-k-preserved c =
-    let l = c.loop in
+    let l = c.loop-k in
     let a = c.args in
     let here = cells_of a.times.now l.levels l.marks a.numbers.now in
-    let most : c.mix-place.result < 256 = omega (arith, l.invariant.0, c.mix-place.ensures.1) in (
+    let most : c.mix_place-slot.result < 256 = omega (arith, l.invariant.0, c.mix_place-slot.ensures.1) in (
       l.invariant.0,
       sounds_sized here _ _ c.process_event-unit.result l.invariant.1 most c.put_unit.ensures,
-      sounds_on _ _ _ a.order (source_moves _) _ _ l.k _ here l.invariant.1 l.mix _ _ _ c.loop-test.true c.mix-place.ensures.0 most c.event_at-event.ensures
+      sounds_on _ _ _ a.order (source_moves _) _ _ l.k _ here l.invariant.1 l.mix _ _ _ c.loop-k-test.true c.mix_place-slot.ensures.0 most c.event_at-event.ensures
           c.process_event-unit.ensures.0 c.process_event-unit.ensures.1 l.invariant.2 _ c.put_unit.ensures,
-      sounds_on _ _ _ a.order (source_moves _) _ _ l.k _ here l.invariant.1 l.places _ _ _ c.loop-test.true c.mix-place.ensures.0 most c.event_at-event.ensures
+      sounds_on _ _ _ a.order (source_moves _) _ _ l.k _ here l.invariant.1 l.places _ _ _ c.loop-k-test.true c.mix_place-slot.ensures.0 most c.event_at-event.ensures
           c.process_event-unit.ensures.0 c.count_places-places.ensures l.invariant.3 _ c.put_unit.ensures,
       search rules,
     )
@@ -37,4 +37,4 @@ unfolding places_pass
 returns c =
     let l = c.loop-k in
     let r = passing_end refl c.loop-k-test.false l.invariant.2 in
-    (r.0, (r.1, (passing_end refl c.loop-k-test.false l.invariant.3).1))
+    record { engine = r.0; samples = r.1; places = (passing_end refl c.loop-k-test.false l.invariant.3).1 }

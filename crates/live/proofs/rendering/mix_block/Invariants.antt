@@ -13,9 +13,9 @@ use Rattle.live.proofs.rendering.mix_block.Given as goal
 
 abbrev pub invariant-loop-k : goal.invariant-loop-k
 invariant-loop-k l = (l.m ≤ 256) × Sized (cells_of l.times l.levels l.marks l.numbers)
-    × Passing (after_block (as_span l.span)) (add_block l.pool (as_span l.span)) l.initial.l.mix l.order (engine_of (cells_of l.times l.initial.l.levels l.initial.l.marks l.numbers)) l.m l.k (engine_of (cells_of l.times l.levels l.marks l.numbers)) l.mix
-    × Passing (after_block (as_span l.span)) (add_places (as_span l.span)) no_placings l.order (engine_of (cells_of l.times l.initial.l.levels l.initial.l.marks l.numbers)) l.m l.k (engine_of (cells_of l.times l.levels l.marks l.numbers)) l.places
-    × (length l.mix ≡ length l.initial.l.mix)
+    × Passing (after_block (as_span l.span)) (add_block l.pool (as_span l.span)) l.initial.mix l.order (engine_of (cells_of l.times l.initial.levels l.initial.marks l.numbers)) l.m l.k (engine_of (cells_of l.times l.levels l.marks l.numbers)) l.mix
+    × Passing (after_block (as_span l.span)) (add_places (as_span l.span)) no_placings l.order (engine_of (cells_of l.times l.initial.levels l.initial.marks l.numbers)) l.m l.k (engine_of (cells_of l.times l.levels l.marks l.numbers)) l.places
+    × (length l.mix ≡ length l.initial.mix)
 
 abbrev pub decreases-loop-k : goal.decreases-loop-k
 decreases-loop-k l = l.m - l.k

@@ -7,4 +7,8 @@ use Rattle.live.proofs.rendering.mix_channels.Goals as goal
 pub returns : goal.returns
 returns c =
     let out = c.args.out.now in
-    (c.mix-block.ensures.0, (c.overlay_channels.ensures ∙ ap (λ (x : List Float). overlay (length out / 64) (take 64 x) out) c.mix-block.ensures.1.0, c.mix-block.ensures.1.1))
+    record {
+      engine = c.mix_block-places.ensures.engine;
+      samples = c.overlay_channels.ensures ∙ ap (λ (x : List Float). overlay (length out / 64) (take 64 x) out) c.mix_block-places.ensures.samples;
+      places = c.mix_block-places.ensures.places;
+    }

@@ -20,13 +20,13 @@ overflow_add-slot c = let l = c.loop-k.invariant.0 in let t = c.mix_place-slot.e
 
 pub loop-k-preserved : goal.loop-k-preserved
 loop-k-preserved c =
-    let l = c.loop in
+    let l = c.loop-k in
     let a = c.args in
     let here = cells_of a.times.now l.levels l.marks a.numbers.now in
-    let most : c.mix-place.result < 256 = omega (arith, l.invariant.0, c.mix-place.ensures.1) in (
+    let most : c.mix_place-slot.result < 256 = omega (arith, l.invariant.0, c.mix_place-slot.ensures.1) in (
       l.invariant.0,
       sounds_sized here _ _ c.after_tick-event.result.unit l.invariant.1 most c.put_unit.ensures,
-      sounds_on _ _ _ a.order tick_moves _ _ l.k _ here l.invariant.1 l.sum _ _ _ c.loop-test.true c.mix-place.ensures.0 most c.event_at-event.ensures
+      sounds_on _ _ _ a.order tick_moves _ _ l.k _ here l.invariant.1 l.sum _ _ _ c.loop-k-test.true c.mix_place-slot.ensures.0 most c.event_at-event.ensures
           (ap (λ (e : Event). e.unit) c.after_tick-event.ensures) (ap (λ (x : Float). l.sum +ˢ x) c.tick_sample-sum.ensures) l.invariant.2 _ c.put_unit.ensures,
     )
 
@@ -34,4 +34,5 @@ pub returns : goal.returns
 unfolding tick_pass
 returns c =
     let l = c.loop-k in
-    passing_end refl c.loop-k-test.false l.invariant.2
+    let r = passing_end refl c.loop-k-test.false l.invariant.2 in
+    record { engine = r.0; sample = r.1 }

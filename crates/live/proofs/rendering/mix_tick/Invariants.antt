@@ -13,7 +13,7 @@ use Rattle.live.proofs.rendering.mix_tick.Given as goal
 
 abbrev pub invariant-loop-k : goal.invariant-loop-k
 invariant-loop-k l = (l.m ≤ 256) × Sized (cells_of l.times l.levels l.marks l.numbers)
-    × Passing after_tick (add_tick l.pool l.time) zeroᶠ l.order (engine_of (cells_of l.times l.initial.l.levels l.initial.l.marks l.numbers)) l.m l.k (engine_of (cells_of l.times l.levels l.marks l.numbers)) l.sum
+    × Passing after_tick (add_tick l.pool l.time) zeroᶠ l.order (engine_of (cells_of l.times l.initial.levels l.initial.marks l.numbers)) l.m l.k (engine_of (cells_of l.times l.levels l.marks l.numbers)) l.sum
 
 abbrev pub decreases-loop-k : goal.decreases-loop-k
 decreases-loop-k l = l.m - l.k

@@ -10,15 +10,15 @@ use Rattle.live.proofs.rendering.process.Goals as goal
 pub returns-then-refusal-ne0 : goal.returns-then-refusal-ne0
 returns-then-refusal-ne0 c =
     let a = c.args in
-    let told = c.process_refusal-refusal.ensures ∙ ap (λ (x : MixSpans.Span). process_refusal a.size (length a.out.now) (get_or a.numbers.now 1284 0) x.clock x.duration) c.Span-of.ensures in
+    let told = c.process_refusal-refusal.ensures ∙ ap (λ (x : MixSpans.Span). process_refusal a.size (length a.out.now) (get_or a.numbers.now 1284 0) x.clock x.duration) c.span_of-span.ensures in
     let r = block-refused_in a.order (cells_of a.times.now a.levels.now a.marks.now a.numbers.now) a.pool.now a.out.now a.size _ told (ne_eqb _ 0 c.if-refusal-ne0.true) in
-    (r.0, (r.1.0, (r.1.1, λ h. refl)))
+    record { engine = r.0; samples = r.1.0; answer = r.1.1; refused = λ h. refl }
 
 pub returns : goal.returns
 unfolding of_bits
 returns c =
     let a = c.args in
-    let told = c.process-refusal.ensures ∙ ap (λ (x : MixSpans.Span). process_refusal a.size (length a.out.now) (get_or a.numbers.now 1284 0) x.clock x.duration) c.Span-of.ensures in
-    let r = block_done_in a.order (cells_of a.times.now a.levels.now a.marks.now a.numbers.now) a.pool.now a.out.now a.size _ told c.if1.false _ _ _ _ _ _ c.Span-of.ensures
-    (mix_is _ _ c.cleared-places.ensures) c.advance.ensures c.mix_channels-places.ensures.engine c.mix_channels-places.ensures.samples.0 c.mix_channels-places.ensures.samples.1 in
-    (r.0, (r.1.0, (r.1.1, λ h. absurd h)))
+    let told = c.process_refusal-refusal.ensures ∙ ap (λ (x : MixSpans.Span). process_refusal a.size (length a.out.now) (get_or a.numbers.now 1284 0) x.clock x.duration) c.span_of-span.ensures in
+    let r = block_done_in a.order (cells_of a.times.now a.levels.now a.marks.now a.numbers.now) a.pool.now a.out.now a.size _ told c.if-refusal-ne0.false _ _ _ _ _ _ c.span_of-span.ensures
+    (mix_is _ _ c.cleared_places-w.ensures) c.advance.ensures c.mix_channels-places.ensures.engine c.mix_channels-places.ensures.samples c.mix_channels-places.ensures.places in
+    record { engine = r.0; samples = r.1.0; answer = r.1.1; refused = λ h. absurd h }

@@ -8,17 +8,17 @@ use Rattle.live.proofs.resets.set_sample_rate.Goals as goal
 pub returns-then-refusal-ne0 : goal.returns-then-refusal-ne0
 returns-then-refusal-ne0 c =
     let r = rate-refused _ _ _ c.rate_refusal-refusal.ensures (ne_eqb _ 0 c.if-refusal-ne0.true) in
-    (r.0, (r.1, λ h. refl))
+    record { engine = r.0; answer = r.1; refused = λ h. refl }
 
 pub returns-then-times-rate : goal.returns-then-times-rate
 returns-then-times-rate c =
     let a = c.args in
     let r = rate-same (cells_of a.times.now a.levels.now a.marks.now a.numbers.now) _ _ c.rate_refusal-refusal.ensures c.if-refusal-ne0.false c.if-times-rate.true in
-    (r.0, (r.1, λ h. absurd h))
+    record { engine = r.0; answer = r.1; refused = λ h. absurd h }
 
 pub returns : goal.returns
 unfolding of_bits neg div
 returns c =
     let a = c.args in
-    let r = rate-other (cells_of a.times.now a.levels.now a.marks.now a.numbers.now) _ _ c.rate-refusal.ensures c.if1.false c.if2.false _ c.sized.ensures c.all-to-ready.ensures _ _ refl refl in
-    (r.0, (r.1, λ h. absurd h))
+    let r = rate-other (cells_of a.times.now a.levels.now a.marks.now a.numbers.now) _ _ c.rate_refusal-refusal.ensures c.if-refusal-ne0.false c.if-times-rate.false _ c.sized.ensures c.all_to_ready.ensures _ _ refl refl in
+    record { engine = r.0; answer = r.1; refused = λ h. absurd h }

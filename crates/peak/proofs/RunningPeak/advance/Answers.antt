@@ -1,7 +1,7 @@
 use mathlib.Core.Path.{sym, ap, ◌∙◌}
 use native.Mathlib.Omega.{arith}
 use lib.ListN.{length, length-set}
-use Rattle.peak.specs.Turns.{inside, room, last, goes_on, turns, length-suffix_maxima_to}
+use Rattle.peak.proofs.Turns.{inside, room, last, goes_on, turns, length-suffix_maxima_to}
 use borrow.Author.Rules.{rules}
 use Rattle.peak.proofs.RunningPeak.advance.Goals as goal
 
@@ -28,5 +28,4 @@ shape_of-row c = ap length c.suffix_maxima.ensures ∙ simp (length-suffix_maxim
 
 pub returns : goal.returns
 returns c =
-    let b4 = c.before.before.before.before in
-    rw c.suffix_maxima.ensures (sym (turns _ _ _ b4.if-w-le1.false b4.if-at-w.false))
+    rw c.suffix_maxima.ensures (sym (turns _ _ _ c.if-w-le1.false c.if-at-w.false))

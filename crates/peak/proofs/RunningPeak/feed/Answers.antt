@@ -1,5 +1,5 @@
 use mathlib.Core.Path.{sym, ◌∙◌}
-use Rattle.peak.specs.Turns.{taken, left_alone}
+use Rattle.peak.proofs.Turns.{taken, left_alone}
 use borrow.Author.Rules.{rules}
 use Rattle.peak.proofs.RunningPeak.feed.Goals as goal
 
@@ -8,10 +8,8 @@ advance-p-requires c = sym c.serves.ensures ∙ c.if-serves.true
 
 pub returns-then-serves : goal.returns-then-serves
 returns-then-serves c =
-    let b3 = c.before.before.before in
-    let b6 = b3.before.before.before in
-    let t = sym b6.serves.ensures ∙ b3.if-serves.true in
-    record { told = rw t; left = rw (c.advance-p.ensures, b3.magnitude.ensures) (sym (taken _ _ t)) }
+    let t = sym c.serves.ensures ∙ c.if-serves.true in
+    record { told = rw t; left = rw (c.advance-p.ensures, c.magnitude.ensures) (sym (taken _ _ t)) }
 
 pub returns : goal.returns
 returns c = record { told = rw (sym c.serves.ensures ∙ c.if-serves.false); left = sym (left_alone _ _ (sym c.serves.ensures ∙ c.if-serves.false)) }

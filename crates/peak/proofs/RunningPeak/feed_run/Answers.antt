@@ -16,17 +16,14 @@ advance-p-requires c = c.loop-i.invariant.serving
 
 pub loop-i-preserved : goal.loop-i-preserved
 loop-i-preserved c =
-    let b3 = c.before.before.before in
-    let b6 = b3.before.before.before in
-    feeding_turn _ _ _ b6.loop-i.invariant b6.loop-i-test.true (rw (← b3.magnitude.ensures) c.advance-p.ensures)
+    feeding_turn _ _ _ c.loop-i.invariant c.loop-i-test.true (rw (← c.magnitude.ensures) c.advance-p.ensures)
 
 pub shape_of-row-then-serves : goal.shape_of-row-then-serves
 shape_of-row-then-serves c = c.loop-i.invariant.long
 
 pub returns-then-serves : goal.returns-then-serves
 returns-then-serves c =
-    let b2 = c.before.before in
-    record { told = rw (sym b2.serves.ensures ∙ b2.if-serves.true); left = feeding_done _ _ c.loop-i.invariant c.loop-i-test.false }
+    record { told = rw (sym c.serves.ensures ∙ c.if-serves.true); left = feeding_done _ _ c.loop-i.invariant c.loop-i-test.false }
 
 pub returns : goal.returns
 returns c =

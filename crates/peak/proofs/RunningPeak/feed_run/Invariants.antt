@@ -9,7 +9,7 @@ use Rattle.peak.proofs.Rows.{Feeding, feeding_start, feeding_turn, feeding_done,
 use Rattle.peak.proofs.RunningPeak.feed_run.Given as goal
 
 abbrev pub invariant-loop-i : goal.invariant-loop-i
-invariant-loop-i l = Feeding (state l.initial.l.p l.initial.l.row) l.samples l.i (state l.p l.row)
+invariant-loop-i l = Feeding (state l.initial.p l.initial.row) l.samples l.i (state l.p l.row)
 
 abbrev pub decreases-loop-i : goal.decreases-loop-i
 decreases-loop-i l = length l.samples - l.i

@@ -1,5 +1,5 @@
 use mathlib.Core.Path.{sym}
-use Rattle.peak.specs.Turns.{too_small, too_large, too_few, in-limits}
+use Rattle.peak.proofs.Turns.{too_small, too_large, too_few, in-limits}
 use borrow.Author.Rules.{rules}
 use Rattle.peak.proofs.RunningPeak.new.Goals as goal
 

@@ -14,27 +14,29 @@ use Rattle.ready.specs.Steps.{child_left, child_first, child_second}
 use Rattle.ready.specs.Waiting.{popped}
 use Rattle.ready.specs.Rounds.{Sinking, sinking_on, sunk, Rising, rising_on, risen_root, risen_stop}
 use Rattle.ready.proofs.Ready.pop.Goals as goal
-use Rattle.ready.proofs.Ready.pop.Goals.{Joined-r-m}
-
-abbrev With : (tie.invariant-loop → tie.decreases-loop → tie.invariant-loop2 → tie.decreases-loop2 → Type 0) → Type 0
-With f = f invariant-loop decreases-loop invariant-loop2 decreases-loop2
+use Rattle.ready.proofs.Ready.pop.Goals.{Joined-r-m, then-r-m+then-precedes, then-r-m+else-precedes, else-r-m, else-loop-i-2-test, then-loop-i-2-test+then-not-precedes}
 
 -- the child that the code takes is that of the definition
-abbrev Found : Type 0
-Found = With Joined-r-m
+at-child : (c : Joined-r-m) → child earlier blank c.loop-i.self.items (c.args.self.len - 1) c.loop-i.i ≡ c.if-r-m.c
+at-child c = elim c.if-r-m.branch [
+  | then-r-m+then-precedes w ↦ child_second earlier blank _ _ _ w.if-r-m.true (sym w.precedes.ensures ∙ w.if-precedes.true) ∙ sym w.c-is
+  | then-r-m+else-precedes w ↦ child_first earlier blank _ _ _ (sym w.precedes.ensures ∙ w.if-precedes.false) ∙ sym w.c-is
+  | else-r-m w ↦ child_left earlier blank _ _ _ w.if-r-m.false ∙ sym w.c-is
+]
 
-at-child : (c : Found) → child earlier blank c.before.before.loop.self.items (c.before.before.before.before.before.before.args.t1.len - 1) c.before.before.loop.i ≡ c.if3.c
-at-child c =
-    ⊎_elim (λ w. child_second earlier blank _ _ _ w.0.taken (sym w.3.ensures ∙ w.4.taken) ∙ sym w.5)
-    (⊎_elim (λ w. child_first earlier blank _ _ _ (sym w.3.ensures ∙ w.4.left) ∙ sym w.5) (λ w. child_left earlier blank _ _ _ w.0.left ∙ sym w.1))
-    c.if3.branch
+above : (c : Joined-r-m) → c.loop-i.i < c.if-r-m.c
+above c = elim c.if-r-m.branch [
+  | then-r-m+then-precedes w ↦ omega (arith, w.c-is)
+  | then-r-m+else-precedes w ↦ omega (arith, w.c-is)
+  | else-r-m w ↦ omega (arith, w.c-is)
+]
 
-above : (c : Found) → c.before.before.loop.i < c.if3.c
-above c = ⊎_elim (λ w. omega (arith, w.5)) (⊎_elim (λ w. omega (arith, w.5)) (λ w. omega (arith, w.1))) c.if3.branch
-
-below : (c : Found) → c.if3.c < c.before.before.before.before.before.before.args.t1.len - 1
-below c =
-    ⊎_elim (λ w. omega (arith, w.5, w.0.taken)) (⊎_elim (λ w. omega (arith, w.5, c.before.loop-test.true)) (λ w. omega (arith, w.1, c.before.loop-test.true))) c.if3.branch
+below : (c : Joined-r-m) → c.if-r-m.c < c.args.self.len - 1
+below c = elim c.if-r-m.branch [
+  | then-r-m+then-precedes w ↦ omega (arith, w.c-is, w.if-r-m.true)
+  | then-r-m+else-precedes w ↦ omega (arith, w.c-is, c.loop-i-test.true)
+  | else-r-m w ↦ omega (arith, w.c-is, c.loop-i-test.true)
+]
 
 pub returns-then-n-eq0 : goal.returns-then-n-eq0
 unfolding popped
@@ -48,10 +50,10 @@ pub loop-i-init : goal.loop-i-init
 loop-i-init c = (omega arith, omega arith, record { fuel = c.args.self.len - 1; enough = omega arith; gives = refl })
 
 pub offset_bounds-self-c : goal.offset_bounds-self-c
-offset_bounds-self-c c = let h = below c.before in search rules
+offset_bounds-self-c c = let h = below c.before.before in search rules
 
 pub bounds-self-c : goal.bounds-self-c
-bounds-self-c c = let h = below c.before in search rules
+bounds-self-c c = let h = below c.before.before in search rules
 
 pub loop-i-smaller : goal.loop-i-smaller
 loop-i-smaller c = let h = below c.before.before in let k = above c.before.before in omega arith
@@ -71,16 +73,18 @@ pub loop-i-2-preserved : goal.loop-i-2-preserved
 loop-i-2-preserved c =
     let d = c.before.before.before in
     let v = d.loop-i-2.invariant in
-    (omega (arith, v.0), v.1, rising_on earlier blank _ _ _ _ d.loop-i-2-test.true (sym c.precedes-in-loop-i-2.ensures ∙ not-false _ c.if-not-precedes.false-raw) v.2)
+    (omega (arith, v.0), v.1, rising_on earlier blank _ _ _ _ d.loop-i-2-test.true (sym c.precedes-in-loop-i-2.ensures ∙ c.if-not-precedes.false) v.2)
 
 pub returns : goal.returns
 unfolding popped
 returns c =
     let r = c.loop-i-2.invariant.2 in
-    let a = c.before.before in
-    let n = a.args.self.len in
-    let h : 0 < n = omega (arith, a.if-n-eq0.false) in
-    rw (lt-ltb 0 n h, le-leb n 256 a.if-n-gt256.false)
+    let n = c.args.self.len in
+    let h : 0 < n = omega (arith, c.if-n-eq0.false) in
+    rw (lt-ltb 0 n h, le-leb n 256 c.if-n-gt256.false)
     (ap (λ (l : List Event). record { items = l; len = n - 1 })
-    (⊎_elim (λ w. risen_root earlier blank _ _ _ _ w.left r) (λ w. risen_stop earlier blank _ _ _ _ (sym w.2.ensures ∙ not-true _ w.3.taken) r) c.loop-i-2-test.branch
-    ∙ sunk earlier blank _ _ _ _ _ a.loop-i-test.false a.loop-i.invariant.2))
+    ((elim c.loop-i-2-test.branch [
+      | else-loop-i-2-test w ↦ risen_root earlier blank _ _ _ _ w.loop-i-2-test.false r
+      | then-loop-i-2-test+then-not-precedes w ↦ risen_stop earlier blank _ _ _ _ (sym w.precedes-in-loop-i-2.ensures ∙ w.if-not-precedes.true) r
+    ])
+    ∙ sunk earlier blank _ _ _ _ _ c.loop-i-test.false c.loop-i.invariant.2))

@@ -13,21 +13,18 @@ use Rattle.ready.specs.Sift.{rise, sink, child}
 use Rattle.ready.specs.Steps.{child_left, child_first, child_second}
 use Rattle.ready.specs.Waiting.{popped}
 use Rattle.ready.specs.Rounds.{Sinking, sinking_on, sunk, Rising, rising_on, risen_root, risen_stop}
-use Rattle.ready.proofs.Ready.pop.Reads as reads
-use Rattle.ready.proofs.Ready.pop.Lts as lts
-use Rattle.event.proofs.Event.precedes.Reads as precedes-reads
 use Rattle.ready.proofs.Ready.pop.Given as goal
 
 -- the free place goes down: from place i on the definition gives its result
 abbrev pub invariant-loop-i : goal.invariant-loop-i
-invariant-loop-i l = (l.i ≤ l.m) × (l.m < 256) × Sinking earlier blank l.self.items l.m l.i l.last (sink earlier blank l.m l.initial.l.self.items l.m 0 l.last)
+invariant-loop-i l = (l.i ≤ l.m) × (l.m < 256) × Sinking earlier blank l.self.items l.m l.i l.last (sink earlier blank l.m l.initial.self.items l.m 0 l.last)
 
 abbrev pub decreases-loop-i : goal.decreases-loop-i
 decreases-loop-i l = l.m - l.i
 
 -- the last rises from where that ended
 abbrev pub invariant-loop-i-2 : goal.invariant-loop-i-2
-invariant-loop-i-2 l = (l.i ≤ l.initial.l.i) × (l.initial.l.i < 256) × Rising earlier blank l.self.items l.i l.last (rise earlier blank l.initial.l.i l.initial.l.self.items l.initial.l.i l.last)
+invariant-loop-i-2 l = (l.i ≤ l.initial.i) × (l.initial.i < 256) × Rising earlier blank l.self.items l.i l.last (rise earlier blank l.initial.i l.initial.self.items l.initial.i l.last)
 
 abbrev pub decreases-loop-i-2 : goal.decreases-loop-i-2
 decreases-loop-i-2 l = l.i

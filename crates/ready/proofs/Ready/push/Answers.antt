@@ -12,8 +12,7 @@ use Rattle.ready.specs.Sift.{rise}
 use Rattle.ready.specs.Waiting.{pushed}
 use Rattle.ready.specs.Rounds.{Rising, rising_on, risen_root, risen_stop}
 use Rattle.ready.proofs.Ready.push.Goals as goal
-
-)
+use Rattle.ready.proofs.Ready.push.Goals.{else-loop-i-test, then-loop-i-test+then-not-precedes}
 
 pub returns-then-n-ge256 : goal.returns-then-n-ge256
 unfolding pushed
@@ -23,9 +22,7 @@ pub loop-i-init : goal.loop-i-init
 loop-i-init c = (search rules, record { fuel = c.args.self.len; enough = omega arith; gives = refl })
 
 pub loop-i-preserved : goal.loop-i-preserved
-loop-i-preserved c = (
-  omega arith,
-  rising_on earlier blank _ _ _ _ c.loop-i-test.true (sym c.precedes.ensures ∙ not-false _ c.if-not-precedes.false-raw) c.loop-i.invariant.1,
+loop-i-preserved c = (omega arith, rising_on earlier blank _ _ _ _ c.loop-i-test.true (sym c.precedes.ensures ∙ c.if-not-precedes.false) c.loop-i.invariant.1)
 
 pub returns : goal.returns
 unfolding pushed
@@ -33,5 +30,7 @@ returns c =
     let n = c.args.self.len in
     rw (lt-ltb n 256 c.if-n-ge256.false)
     (ap (λ (l : List Event). record { items = l; len = n + 1 })
-    (⊎_elim (λ w. risen_root earlier blank _ _ _ _ w.left c.loop-i.invariant.1)
-    (λ w. risen_stop earlier blank _ _ _ _ (sym w.2.ensures ∙ not-true _ w.3.taken) c.loop-i.invariant.1) c.loop-i-test.branch))
+    (elim c.loop-i-test.branch [
+      | else-loop-i-test w ↦ risen_root earlier blank _ _ _ _ w.loop-i-test.false c.loop-i.invariant.1
+      | then-loop-i-test+then-not-precedes w ↦ risen_stop earlier blank _ _ _ _ (sym w.precedes.ensures ∙ w.if-not-precedes.true) c.loop-i.invariant.1
+    ]))

@@ -19,7 +19,7 @@ pub loop-place-preserved : goal.loop-place-preserved
 loop-place-preserved c =
     let more = c.loop-place-test.true in
     let l = c.loop-place in
-    (omega (arith, more, l.invariant.0), climbing_on earlier blank more (sym c.precedes.ensures ∙ not-false _ c.if-not-precedes.false-raw) l.invariant.1)
+    (omega (arith, more, l.invariant.0), climbing_on earlier blank more (sym c.precedes.ensures ∙ c.if-not-precedes.false) l.invariant.1)
 
 pub returns-after-loop-place : goal.returns-after-loop-place
 returns-after-loop-place c = rw (lt-ltb c.args.self.len 256 c.if-n-ge256.false) (climbed_root earlier blank c.loop-place-test.false c.loop-place.invariant.1)
@@ -27,5 +27,5 @@ returns-after-loop-place c = rw (lt-ltb c.args.self.len 256 c.if-n-ge256.false) 
 pub returns-then-not-precedes : goal.returns-then-not-precedes
 returns-then-not-precedes c =
     let l = c.loop-place in
-    let late = sym c.precedes.ensures ∙ not-true _ c.if-not-precedes.true-raw in
+    let late = sym c.precedes.ensures ∙ c.if-not-precedes.true in
     rw (lt-ltb c.args.self.len 256 c.if-n-ge256.false) (climbed_stop earlier blank late l.invariant.1)

@@ -6,7 +6,7 @@ use Rattle.realseq.specs.HandlingLaws.{until_none, until_stop, until_on}
 use Rattle.realseq.proofs.SequencerBackend.handle_until_reset.Given as goal
 
 abbrev pub invariant-loop-q : goal.invariant-loop-q
-invariant-loop-q l = until_reset l.self ≡ until_reset l.initial.l.self
+invariant-loop-q l = until_reset l.self ≡ until_reset l.initial.self
 
 abbrev pub decreases-loop-q : goal.decreases-loop-q
 decreases-loop-q l = l.self.messages.count

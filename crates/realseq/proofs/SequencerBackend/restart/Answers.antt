@@ -37,8 +37,4 @@ pub returns-in-All : goal.returns-in-All
 returns-in-All c = replays _ _ c.reset-s.ensures c.in-All.is
 
 pub returns-in-None : goal.returns-in-None
-returns-in-None c =
-    let a = c.before in
-    let r = a.before in
-    let p = r.before in
-    lets_go _ _ c.reset-s-in-None.ensures _ _ _ p.in-None.is p.push_past-q.ensures r.push_ready-q.ensures a.push_active-q.ensures
+returns-in-None c = lets_go _ _ c.reset-s-in-None.ensures _ _ _ c.in-None.is c.push_past-q.ensures c.push_ready-q.ensures c.push_active-q.ensures

@@ -27,6 +27,4 @@ pub returns-then-no-ne0 : goal.returns-then-no-ne0
 returns-then-no-ne0 c = rate-refused _ _ _ c.rate_refusal-no.ensures c.if-no-ne0.true
 
 pub returns : goal.returns
-returns c =
-    let m = c.before.before in
-    rate-done _ _ _ m.rate_refusal-no.ensures _ _ m.if-no-ne0.false m.drain-d.ensures c.change_rate-s.ensures
+returns c = rate-done _ _ _ c.rate_refusal-no.ensures _ _ c.if-no-ne0.false c.drain-d.ensures c.change_rate-s.ensures

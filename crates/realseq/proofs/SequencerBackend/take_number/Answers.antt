@@ -10,4 +10,4 @@ unfolding numbered
 counts-on d n h = ap (λ (x : ℕ). record { sequencer = with_next d.sequencer x; messages = d.messages; returned = d.returned }) h
 
 pub returns : goal.returns
-returns c = counts-on _ _ c.wrapping_add_u64.ensures
+returns c = counts-on _ _ c.wrapping_add_u64.ensures.value

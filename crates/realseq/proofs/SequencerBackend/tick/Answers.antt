@@ -32,11 +32,9 @@ returns-then-no-ne0 c =
 pub returns : goal.returns
 unfolding ticks tick_outs
 returns c =
-    let r = c.before.before.before in
-    let d = r.before.before.before in
-    let a = d.args in
-    let some = d.if-no-ne0.false in
-    let no = d.tick_refusal-no.ensures in (
-      done _ _ no _ _ _ some (stepped a.order a.pool.now a.self d.drain-d.result d.drain-d.ensures _ _ r.render_tick-r.ensures.0 c.after_step.ensures),
-      heard _ _ no a.out.now _ _ some (sounded a.order a.pool.now a.self d.drain-d.result d.drain-d.ensures a.out.now _ r.render_tick-r.ensures.1),
+    let a = c.args in
+    let some = c.if-no-ne0.false in
+    let no = c.tick_refusal-no.ensures in (
+      done _ _ no _ _ _ some (stepped a.order a.pool.now a.self c.drain-d.result c.drain-d.ensures _ _ c.render_tick-r.ensures.0 c.after_step.ensures),
+      heard _ _ no a.out.now _ _ some (sounded a.order a.pool.now a.self c.drain-d.result c.drain-d.ensures a.out.now _ c.render_tick-r.ensures.1),
     )

@@ -6,7 +6,7 @@ use Rattle.sequencer.proofs.Sequencer.all_to_ready.Given as goal
 
 -- from place i on the definition gives its result
 abbrev pub invariant-loop-i : goal.invariant-loop-i
-invariant-loop-i l = (l.past ≤ 256) × (l.n ≤ l.past + 256) × Readying l.n l.past l.i l.self (to_ready l.n l.past 0 l.initial.l.self)
+invariant-loop-i l = (l.past ≤ 256) × (l.n ≤ l.past + 256) × Readying l.n l.past l.i l.self (to_ready l.n l.past 0 l.initial.self)
 
 abbrev pub decreases-loop-i : goal.decreases-loop-i
 decreases-loop-i l = l.n - l.i

@@ -11,4 +11,4 @@ swap_remove-s-requires c = c.requires
 pub returns : goal.returns
 returns c =
     let a = c.args in
-    c.push_past.ensures ∙ ap (λ (s : Sequencer). pushed_past s (get_or a.t1.active a.i blank)) c.swap_remove-s.ensures
+    c.push_past.ensures ∙ ap (λ (s : Sequencer). pushed_past s (get_or a.self.active a.i blank)) c.swap_remove-s.ensures

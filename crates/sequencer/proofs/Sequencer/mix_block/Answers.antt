@@ -38,4 +38,4 @@ unfolding places_pass
 returns c =
     let l = c.loop-i in
     let r = passing_end refl c.loop-i-test.false l.invariant.0 in
-    (r.0, (r.1, (passing_end refl c.loop-i-test.false l.invariant.1).1))
+    record { engine = r.0; samples = r.1; places = (passing_end refl c.loop-i-test.false l.invariant.1).1 }

@@ -12,9 +12,9 @@ use Rattle.sequencer.specs.Passing.{Passing, passing_start, passing_on, passing_
 use Rattle.sequencer.proofs.Sequencer.mix_block.Given as goal
 
 abbrev pub invariant-loop-i : goal.invariant-loop-i
-invariant-loop-i l = Passing (after_block (as_span l.span)) (add_block l.pool (as_span l.span)) l.initial.l.mix l.order l.initial.l.self l.m l.i l.self l.mix
-    × Passing (after_block (as_span l.span)) (add_places (as_span l.span)) no_placings l.order l.initial.l.self l.m l.i l.self l.places
-    × (length l.mix ≡ length l.initial.l.mix)
+invariant-loop-i l = Passing (after_block (as_span l.span)) (add_block l.pool (as_span l.span)) l.initial.mix l.order l.initial.self l.m l.i l.self l.mix
+    × Passing (after_block (as_span l.span)) (add_places (as_span l.span)) no_placings l.order l.initial.self l.m l.i l.self l.places
+    × (length l.mix ≡ length l.initial.mix)
 
 abbrev pub decreases-loop-i : goal.decreases-loop-i
 decreases-loop-i l = l.m - l.i

@@ -9,7 +9,7 @@ use Rattle.sequencer.specs.Passing.{Passing, passing_start, passing_on, passing_
 use Rattle.sequencer.proofs.Sequencer.mix_tick.Given as goal
 
 abbrev pub invariant-loop-i : goal.invariant-loop-i
-invariant-loop-i l = Passing after_tick (add_tick l.pool l.time) zeroᶠ l.order l.initial.l.self l.m l.i l.self l.sum
+invariant-loop-i l = Passing after_tick (add_tick l.pool l.time) zeroᶠ l.order l.initial.self l.m l.i l.self l.sum
 
 abbrev pub decreases-loop-i : goal.decreases-loop-i
 decreases-loop-i l = l.m - l.i

@@ -52,4 +52,4 @@ returns-then-no-ne0 c = refused _ _ _ _ _ _ _ _ _ _ _ _ _ c.held-n.ensures c.pus
 pub returns : goal.returns
 returns c =
     accepted _ _ _ _ _ _ _ _ _ _ _ _ _ c.held-n.ensures c.push_refusal-no.ensures c.if-no-ne0.false
-    _ _ _ _ c.new-event.ensures c.wrapping_add_u64-next.ensures c.push_event-s.ensures c.rise_of-rise.ensures
+    _ _ _ _ c.new-event.ensures c.wrapping_add_u64-next.ensures.value c.push_event-s.ensures c.rise_of-rise.ensures

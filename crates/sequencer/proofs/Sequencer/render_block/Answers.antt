@@ -61,25 +61,22 @@ module _ (order : MixOrder) (pool : List Float) (s : Sequencer) (n : ℕ) where
 pub slice_bounds-overlay_channels-end : goal.slice_bounds-overlay_channels-end
 unfolding of_bits
 slice_bounds-overlay_channels-end c =
-    let r = c.mix-block in
-    let w = c.cleared-places in
+    let r = c.mix_block-mix in
+    let w = c.cleared_places-w in
     let fits : w.result ≤ 64 = omega (arith, w.ensures) in
-    let ys = r.new.1.1.1.1.0 in
-    let long : length (ys ++ drop (w.result - 0) (replicate 64 zeroᶠ)) ≡ 64 = same_len_mid 0 (w.result - 0) (replicate 64 zeroᶠ) ys r.auto.1.1.1.1.0 in
+    let ys = r.new.mix in
+    let long : length (ys ++ drop (w.result - 0) (replicate 64 zeroᶠ)) ≡ 64 = same_len_mid 0 (w.result - 0) (replicate 64 zeroᶠ) ys r.auto.mix in
     let h : w.result ≤ length (ys ++ drop (w.result - 0) (replicate 64 zeroᶠ)) = omega (arith, fits, long) in
     search rules
 
 pub returns : goal.returns
 unfolding of_bits
 returns c =
-    let mixed = c.before.before.before.before.before.before.before.before.before in
-    let cleared = mixed.before.before in
-    let begun = cleared.before in
-    let a = begun.args in
+    let a = c.args in
     let out = a.out.now in
-    let r = mixed.mix-block in
-    let w = cleared.cleared-places in
+    let r = c.mix_block-mix in
+    let w = c.cleared_places-w in
     let fits : w.result ≤ 64 = omega (arith, w.ensures) in
-    let ys = r.new.1.1.1.1.0 in
-    done a.order a.pool.now a.self a.size _ _ ys out _ _ r.result begun.span.ensures (lent _ _ w.ensures) begun.advance.ensures r.ensures.0 r.ensures.1.0 r.ensures.1.1
-    (c.overlay_channels.ensures ∙ ap (λ (run : List Float). overlay (length out / 64) (take 64 run) out) (back w.result ys (replicate 64 zeroᶠ) fits r.auto.1.1.1.1.0))
+    let ys = r.new.mix in
+    done a.order a.pool.now a.self a.size _ _ ys out _ _ r.result c.span-span.ensures (lent _ _ w.ensures) c.advance-s.ensures r.ensures.engine r.ensures.samples r.ensures.places
+    (c.overlay_channels.ensures ∙ ap (λ (run : List Float). overlay (length out / 64) (take 64 run) out) (back w.result ys (replicate 64 zeroᶠ) fits r.auto.mix))

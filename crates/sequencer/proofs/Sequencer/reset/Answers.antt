@@ -35,4 +35,4 @@ returns-in-None c =
     let n = c.before.before.before in
     let k = n.before.before.before in
     reset-none k.args.self n.least.ensures n.least-in-None.ensures n.least-in-None-2.ensures
-    c.wrapping_add_u64.ensures c.cleared_edits-edits.ensures k.in-None.is
+    c.wrapping_add_u64.ensures.value c.cleared_edits-edits.ensures k.in-None.is

@@ -7,7 +7,7 @@ use Rattle.sequencer.specs.Turns.{Rewinding, rewinding_start, rewinding_on, rewo
 use Rattle.sequencer.proofs.Sequencer.rewind_ready.Given as goal
 
 abbrev pub invariant-loop-i : goal.invariant-loop-i
-invariant-loop-i l = (l.n ≡ min l.initial.l.self.ready_len 256) × Rewinding l.initial.l.self l.n l.i l.self
+invariant-loop-i l = (l.n ≡ min l.initial.self.ready_len 256) × Rewinding l.initial.self l.n l.i l.self
 
 abbrev pub decreases-loop-i : goal.decreases-loop-i
 decreases-loop-i l = l.n - l.i

@@ -11,31 +11,19 @@ returns-in-Reset c = c.mixed.ensures ∙ ap (λ m. mixed_all c.args.digest (mess
 pub returns-in-Push : goal.returns-in-Push
 unfolding mixed_all message_words
 returns-in-Push c =
-    let s1 = c.before in
-    let s3 = s1.before.before in
-    let s5 = s3.before.before in
-    c.mixed_event.ensures ∙ ap (λ (d : ℕ). mixed_all d (event_words s3.in-Push.event)) s1.mixed-in-Push.ensures ∙ ap (λ m. mixed_all s5.args.digest (message_words m)) (sym s3.in-Push.is)
+    c.mixed_event.ensures ∙ ap (λ (d : ℕ). mixed_all d (event_words c.in-Push.event)) c.mixed-in-Push.ensures ∙ ap (λ m. mixed_all c.args.digest (message_words m)) (sym c.in-Push.is)
 
 pub returns-in-PushRelative : goal.returns-in-PushRelative
 unfolding mixed_all message_words
 returns-in-PushRelative c =
-    let s1 = c.before in
-    let s3 = s1.before.before in
-    let s5 = s3.before.before in
-    c.mixed_event-in-PushRelative.ensures ∙ ap (λ (d : ℕ). mixed_all d (event_words s3.in-PushRelative.event)) s1.mixed-in-PushRelative.ensures ∙ ap (λ m. mixed_all s5.args.digest (message_words m)) (sym s3.in-PushRelative.is)
+    c.mixed_event-in-PushRelative.ensures ∙ ap (λ (d : ℕ). mixed_all d (event_words c.in-PushRelative.event)) c.mixed-in-PushRelative.ensures ∙ ap (λ m. mixed_all c.args.digest (message_words m)) (sym c.in-PushRelative.is)
 
 pub returns-in-Edit : goal.returns-in-Edit
 unfolding mixed_all message_words
 returns-in-Edit c =
-    let s1 = c.before in
-    let s3 = s1.before.before in
-    let s5 = s3.before.before in
-    c.mixed_edit.ensures ∙ ap (λ (d : ℕ). mixed_all d (edit_words s3.in-Edit.id s3.in-Edit.edit)) s1.mixed-in-Edit.ensures ∙ ap (λ m. mixed_all s5.args.digest (message_words m)) (sym s3.in-Edit.is)
+    c.mixed_edit.ensures ∙ ap (λ (d : ℕ). mixed_all d (edit_words c.in-Edit.id c.in-Edit.edit)) c.mixed-in-Edit.ensures ∙ ap (λ m. mixed_all c.args.digest (message_words m)) (sym c.in-Edit.is)
 
 pub returns-in-EditRelative : goal.returns-in-EditRelative
 unfolding mixed_all message_words
 returns-in-EditRelative c =
-    let s1 = c.before in
-    let s3 = s1.before.before in
-    let s5 = s3.before.before in
-    c.mixed_edit-in-EditRelative.ensures ∙ ap (λ (d : ℕ). mixed_all d (edit_words s3.in-EditRelative.id s3.in-EditRelative.edit)) s1.mixed-in-EditRelative.ensures ∙ ap (λ m. mixed_all s5.args.digest (message_words m)) (sym s3.in-EditRelative.is)
+    c.mixed_edit-in-EditRelative.ensures ∙ ap (λ (d : ℕ). mixed_all d (edit_words c.in-EditRelative.id c.in-EditRelative.edit)) c.mixed-in-EditRelative.ensures ∙ ap (λ m. mixed_all c.args.digest (message_words m)) (sym c.in-EditRelative.is)

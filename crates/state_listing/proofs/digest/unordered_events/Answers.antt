@@ -13,10 +13,7 @@ loop-i-init c = running _ _
 
 pub loop-i-preserved : goal.loop-i-preserved
 loop-i-preserved c =
-    let s1 = c.before in
-    let s3 = s1.before.before in
-    let s4 = s3.before in
-    running_on _ _ s3.loop-i-test.true (c.wrapping_add_u64-digest.ensures ∙ ap (λ (x : ℕ). (s4.loop-i.digest + x) % 2 ^ 64) s1.mixed_event.ensures) s4.loop-i.invariant
+    running_on _ _ c.loop-i-test.true (c.wrapping_add_u64-digest.ensures ∙ ap (λ (x : ℕ). (c.loop-i.digest + x) % 2 ^ 64) c.mixed_event.ensures) c.loop-i.invariant
 
 pub returns : goal.returns
 unfolding unordered_events

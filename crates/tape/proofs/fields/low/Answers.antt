@@ -11,7 +11,7 @@ overflow_mul-n c = omega (arith, next_fits _ _ _ _ (λ i. (c.shared_slice_known-
 
 pub overflow_add-n : goal.overflow_add-n
 overflow_add-n c =
-    let l = c.before.before.before in
+    let l = c.before in
     let i = l.loop-i.invariant in
     let h = next_fits _ _ _ _ (λ j. (l.shared_slice_known-1.given j).fits) i.1.0 c.loop-i-test.true i.0 i.1.1 in
     omega (arith, h, c.wide.ensures, c.byte.ensures)

@@ -4,7 +4,7 @@ use Rattle.tape.specs.Fields.{from_little_endian, field, none_yet, next-byte, ne
 use Rattle.tape.proofs.fields.low.Given as goal
 
 abbrev pub invariant-loop-i : goal.invariant-loop-i
-invariant-loop-i l = (l.i ≤ l.initial.l.i) × ((l.initial.l.i ≤ 8) × (l.n ≡ from_little_endian (drop l.i (take l.initial.l.i l.bs))))
+invariant-loop-i l = (l.i ≤ l.initial.i) × ((l.initial.i ≤ 8) × (l.n ≡ from_little_endian (drop l.i (take l.initial.i l.bs))))
 
 abbrev pub decreases-loop-i : goal.decreases-loop-i
 decreases-loop-i l = l.i

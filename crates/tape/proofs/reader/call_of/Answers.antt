@@ -5,8 +5,8 @@ use Rattle.tape.proofs.reader.call_of.Goals as goal
 pub returns-in-0 : goal.returns-in-0
 unfolding call_of
 returns-in-0 c =
-    let k = c.before.before.before.before.before in
-    simp (sym (k.plain_kind-kind.ensures ∙ ap plain_kind k.byte.ensures) ∙ c.in-0.is, sym c.byte-in-0.ensures, sym c.Mode-of.ensures, sym c.byte-in-0-2.ensures, sym c.word64.ensures)
+    let k = c.before in
+    simp (sym (k.plain_kind-kind.ensures ∙ ap plain_kind k.byte.ensures) ∙ c.in-0.is, sym c.byte-in-0.ensures, sym k.mode_of-m.ensures, sym c.byte-in-0-2.ensures, sym c.word64.ensures)
 
 pub returns-in-1 : goal.returns-in-1
 unfolding call_of
@@ -22,7 +22,7 @@ returns-in-3 c = simp (sym (c.plain_kind-kind.ensures ∙ ap plain_kind c.byte.e
 
 pub returns-in-4 : goal.returns-in-4
 unfolding call_of
-returns-in-4 c = simp (sym (c.plain_kind-kind.ensures ∙ ap plain_kind c.byte.ensures) ∙ c.in-4.is, sym c.edit_of_lem.ensures)
+returns-in-4 c = simp (sym (c.plain_kind-kind.ensures ∙ ap plain_kind c.byte.ensures) ∙ c.in-4.is, sym c.edit_of.ensures)
 
 pub returns-in-5 : goal.returns-in-5
 unfolding call_of
@@ -43,7 +43,7 @@ returns-in-8 c = simp (sym (c.plain_kind-kind.ensures ∙ ap plain_kind c.byte.e
 pub returns-in_default : goal.returns-in_default
 unfolding call_of
 returns-in_default c =
-    let r8 = c.in_default.rest in
+    let r8 = c.in_default.in_default-own.rest in
     let r7 = r8.0 in
     let r6 = r7.0 in
     let r5 = r6.0 in

@@ -6,4 +6,4 @@ pub returns-in-0 : goal.returns-in-0
 returns-in-0 c = simp (eq-eqb _ _ c.in-0.is)
 
 pub returns-in_default : goal.returns-in_default
-returns-in_default c = simp (ne_eqb _ _ c.in_default.rest.1)
+returns-in_default c = simp (ne_eqb _ _ c.in_default.in_default-own.rest.1)

@@ -59,7 +59,7 @@ pub returns-in_default : goal.returns-in_default
 unfolding size_of sizes
 returns-in_default c =
     let n = c.args.kind in
-    let r12 = c.in_default.rest in
+    let r12 = c.in_default.in_default-own.rest in
     let r11 = r12.0 in
     let r10 = r11.0 in
     let r9 = r10.0 in

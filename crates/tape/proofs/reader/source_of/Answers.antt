@@ -13,4 +13,4 @@ returns-in-1 c = simp (sym c.byte-b.ensures ∙ c.in-1.is, c.f32_at-in-1.ensures
 
 pub returns-in_default : goal.returns-in_default
 unfolding source_of
-returns-in_default c = simp (sym c.byte-b.ensures, ne_eqb _ _ c.in_default.rest.1, ne_eqb _ _ c.in_default.rest.0.1, c.word32.ensures, c.word32-in_default.ensures)
+returns-in_default c = simp (sym c.byte-b.ensures, ne_eqb _ _ c.in_default.in_default-own.rest.1, ne_eqb _ _ c.in_default.in_default-own.rest.0.1, c.word32.ensures, c.word32-in_default.ensures)

@@ -4,7 +4,7 @@ use Rattle.wav.proofs.Steps.{Channels, start, next_given, turn, finish}
 use Rattle.wav.proofs.frames.put_frame.Goals as goal
 
 pub loop-left-init : goal.loop-left-init
-loop-left-init c = start _ _ _ _ _ _ c.requires.0 c.requires.1.0 c.requires.1.1
+loop-left-init c = start _ _ _ _ _ _ c.requires.fact_1 c.requires.fact_2 c.requires.fact_3
 
 pub overflow_add-from : goal.overflow_add-from
 overflow_add-from c = let g = next_given _ _ _ _ _ _ c.loop-left.invariant c.loop-left-test.true in let i = c.loop-left.invariant.inside in search rules

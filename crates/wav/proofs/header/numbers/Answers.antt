@@ -4,13 +4,13 @@ use Rattle.wav.proofs.Headers.{product}
 use Rattle.wav.proofs.header.numbers.Goals as goal
 
 pub overflow_mul-data : goal.overflow_mul-data
-overflow_mul-data c = let p = product c.args.frames (c.args.channels * 4) c.requires.1.1 (let z = c.requires.0 in omega arith) in record { fits = omega arith }
+overflow_mul-data c = let p = product c.args.frames (c.args.channels * 4) c.requires.fact_3 (let z = c.requires.fact_1 in omega arith) in record { fits = omega arith }
 
 pub overflow_add-size : goal.overflow_add-size
-overflow_add-size c = let p = product c.args.frames (c.args.channels * 4) c.requires.1.1 (let z = c.requires.0 in omega arith) in record { fits = omega arith }
+overflow_add-size c = let p = product c.args.frames (c.args.channels * 4) c.requires.fact_3 (let z = c.requires.fact_1 in omega arith) in record { fits = omega arith }
 
 pub overflow_mul-speed : goal.overflow_mul-speed
-overflow_mul-speed c = let p = product c.args.rate (c.args.channels * 4) c.requires.1.0 (let z = c.requires.0 in omega arith) in record { fits = omega arith }
+overflow_mul-speed c = let p = product c.args.rate (c.args.channels * 4) c.requires.fact_2 (let z = c.requires.fact_1 in omega arith) in record { fits = omega arith }
 
 pub returns-then-large : goal.returns-then-large
 unfolding numbers_of

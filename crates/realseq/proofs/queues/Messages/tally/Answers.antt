@@ -27,9 +27,9 @@ loop-i-preserved c =
 pub returns-after-loop-i : goal.returns-after-loop-i
 returns-after-loop-i c =
     let a = c.args in
-    omega (arith, tally-none (min a.t1.count 64) c.loop-i.i a.t1 a.kind (omega arith), c.loop-i.invariant.2)
+    omega (arith, tally-none (min a.self.count 64) c.loop-i.i a.self a.kind (omega arith), c.loop-i.invariant.2)
 
 pub returns-then-n-i : goal.returns-then-n-i
 returns-then-n-i c =
     let a = c.args in
-    omega (arith, tally-none (min a.t1.count 64) c.loop-i.i a.t1 a.kind (omega arith), c.loop-i.invariant.2)
+    omega (arith, tally-none (min a.self.count 64) c.loop-i.i a.self a.kind (omega arith), c.loop-i.invariant.2)

@@ -5,7 +5,7 @@ use Rattle.realseq.specs.HandlingLaws.{down-same, down_on, down-none}
 use Rattle.realseq.proofs.queues.Returned.push_past.Given as goal
 
 abbrev pub invariant-loop-i : goal.invariant-loop-i
-invariant-loop-i l = (l.i ≤ 256) × (sent_down l.i l.s.past l.self ≡ sent_down (min l.s.past_len 256) l.s.past l.initial.l.self)
+invariant-loop-i l = (l.i ≤ 256) × (sent_down l.i l.s.past l.self ≡ sent_down (min l.s.past_len 256) l.s.past l.initial.self)
 
 abbrev pub decreases-loop-i : goal.decreases-loop-i
 decreases-loop-i l = l.i

@@ -5,7 +5,7 @@ use Rattle.realseq.specs.HandlingLaws.{ready_same, ready_on, ready_none}
 use Rattle.realseq.proofs.queues.Returned.push_ready.Given as goal
 
 abbrev pub invariant-loop-i : goal.invariant-loop-i
-invariant-loop-i l = sent_ready l.i l.heap l.self ≡ sent_ready (min l.initial.l.heap.len 256) l.initial.l.heap l.initial.l.self
+invariant-loop-i l = sent_ready l.i l.heap l.self ≡ sent_ready (min l.initial.heap.len 256) l.initial.heap l.initial.self
 
 abbrev pub decreases-loop-i : goal.decreases-loop-i
 decreases-loop-i l = l.i

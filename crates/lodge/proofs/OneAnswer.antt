@@ -1,0 +1,40 @@
+-- `Right` has one answer: two that are right for the same hours, minute and length are equal.
+use Rattle.std.specs.Prelude.{◌≡◌, true, ℕ, ◌+◌, ◌-◌, ◌%◌, ◌≤◌}
+use Rattle.std.proofs.Common.{sym, ap, ◌∙◌, arith}
+use Rattle.lodge.specs.declared.Hours.{Hours}
+use Rattle.lodge.specs.declared.Answer.{Answer}
+use Rattle.lodge.specs.declared.Answer.TheVariants.{At}
+use Rattle.lodge.specs.Hours.{in_use, Proper, Fits, Right}
+use Rattle.lodge.specs.Search.{orderly, searched, answered}
+use Rattle.lodge.proofs.Theorem.{Outcome, refused, made, outcome, Ending, now, then, never, ending, fits-long, all_short}
+use Rattle.lodge.proofs.Theorem.{now_later, now_fits, now_least, then-later, then-fits, then-least}
+
+module _ (h : Hours) (m n : ℕ) (a : Answer) (r : Right h m n a) where
+  -- where t is the earliest minute, the answer is t
+  is_earliest : Proper h m n → (t : ℕ) → m ≤ t → Fits (in_use h) n t → ((u : ℕ) → m ≤ u → Fits (in_use h) n u → t ≤ u) → a ≡ At t
+  is_earliest p t l f e =
+      let x = r.answers p (fits-long h n t f) in
+      let u = x.0 in
+      let q : a ≡ At u = x.1 in
+      let y = r.earliest u q t l f in
+      let z = e u (r.later u q) (r.fits u q) in
+      let w : u ≡ t = omega arith in
+      q ∙ ap At w
+
+  is-searched : Proper h m n → orderly 0 (in_use h) ≡ true → (b : Answer) → Ending (in_use h) m n b → a ≡ b
+  is-searched p o b (now t e k) =
+      is_earliest p (m - m % 10080 + t) (now_later h m n p o t e) (now_fits h m n p o t e) (now_least h m n p o t e) ∙ sym k
+  is-searched p o b (then t q e k) =
+      is_earliest p (m - m % 10080 + 10080 + t) (then-later h m n p o t) (then-fits h m n p o t e) (then-least h m n p o t q e) ∙ sym k
+  is-searched p o b (never e k) = r.too_long p (all_short h m n p o e) ∙ sym k
+
+  -- it is the code's
+  pub is-answered : a ≡ answered h m n
+  is-answered = go (outcome h m n)
+    where
+      go : Outcome h m n (answered h m n) → a ≡ answered h m n
+      go (refused x k) = r.wrong x ∙ sym k
+      go (made p o k) = is-searched p o (searched (in_use h) m n) (ending (in_use h) m n) ∙ sym k
+
+pub one_answer : (h : Hours) (m n : ℕ) (a b : Answer) → Right h m n a → Right h m n b → a ≡ b
+one_answer h m n a b r s = is-answered h m n a r ∙ sym (is-answered h m n b s)
