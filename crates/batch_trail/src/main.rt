@@ -96,7 +96,9 @@ fn play_run<W: Write>(
     let size = fields::word32(bytes, at + 3) as usize % 65536;
     let n = least(size, bytes.len() - from);
     let records = &bytes[from..from + n];
-    push_records(out, times, levels, marks, numbers, records, count, len, given)?;
+    push_records(
+        out, times, levels, marks, numbers, records, count, len, given,
+    )?;
     Ok(from + n)
 }
 

@@ -3,12 +3,9 @@
 
 ghost use Rattle.std.specs.Prelude.{◌≡◌, ◌≤◌, length, take};
 
-use std::env;
-use std::fs;
-use std::io;
 use std::io::Read;
 use std::rt::{Env, Files};
-use std::str;
+use std::{env, fs, io, str};
 
 // Reads until the buffer is full, the input ends or a read fails; answers how many bytes came, which stand at its front. With no room it reads nothing.
 pub fn read_full<R: Read>(from: &mut R, buf: &mut [u8]) -> usize

@@ -1,12 +1,8 @@
 -- What reading may leave. Which bytes come no contract of the system's readers can say; everything else is said here by what it answered and what it left in the part that was lent.
-use Rattle.std.specs.Prelude.{ℕ, ◌-◌, ◌≤◌, min, ◌≡◌, refl, Bool, true, false, cond, List, ◌++◌, ltb, ℤ, pos, negsuc, length, take, drop}
+use Rattle.std.specs.Prelude.{ℕ, ◌-◌, ◌≤◌, ◌≡◌, refl, Bool, true, false, cond, List, ◌++◌, ltb, ℤ, pos, negsuc, length, take, drop}
 use Rattle.std.specs.Int.Signed.{lt_z}
+use Rattle.std.specs.Counts.{clamp_len}
 use Rattle.tape_input.specs.declared.Came.{Came}
-
--- a count that a read answered, brought into what there is room for; below 0 it failed, and nothing came
-abbrev pub clamp_len : ℤ → ℕ → ℕ
-clamp_len (pos k) most = min k most
-clamp_len (negsuc k) most = 0
 
 -- what came behind the first `have` of so many bytes, by the reader's answer; where there are not so many, nothing is read
 unfoldable pub came_of : (room have : ℕ) → (got : ℤ) → Came

@@ -133,13 +133,7 @@ pub fn open<R: Files + Env + Eprint + Alloc>(
 // ---- records
 
 // The record at a place of the file: its first 64 bytes are read, and a record needs no more than 47 (tape, specs/Window). `next.at` is the record's length. A failed read counts as the tape's end.
-pub fn record<E: Eprint, F: FileExt>(
-    rt: &E,
-    who: &[u8],
-    file: &F,
-    at: u64,
-    first: bool,
-) -> Read
+pub fn record<E: Eprint, F: FileExt>(rt: &E, who: &[u8], file: &F, at: u64, first: bool) -> Read
     ensures { Stands first result }
 {
     if 0x7fff_ffff_ffff_ffff < at {

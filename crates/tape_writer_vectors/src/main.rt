@@ -9,9 +9,8 @@ ghost use Rattle.std.specs.Prelude.{◌≤◌};
 use digests::mixed_bytes;
 use std::io;
 use std::io::{BufReader, BufWriter, Read, Write};
-use tape::fields;
-use tape::reader;
 use tape::reader::Cursor;
+use tape::{fields, reader};
 use tape_writer::{Arguments, Written, calls};
 
 fn print_bytes<W: Write>(out: &mut W, bytes: &[u8]) -> io::Result<()> {

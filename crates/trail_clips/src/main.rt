@@ -228,7 +228,16 @@ fn list_by_slice<W: Write>(
 ) -> io::Result<()> {
     mark_all(row);
     if length <= row.len() {
-        list_clips(out, times, levels, marks, numbers, from, to, &mut row[..length])?;
+        list_clips(
+            out,
+            times,
+            levels,
+            marks,
+            numbers,
+            from,
+            to,
+            &mut row[..length],
+        )?;
     }
     Ok(())
 }
@@ -264,7 +273,13 @@ fn list_first<W: Write>(
 }
 
 // Plays the tape and lists what is then held.
-fn list<E: Env, W: Write>(env: &E, out: &mut W, bytes: &[u8], from: f64, to: f64) -> io::Result<()> {
+fn list<E: Env, W: Write>(
+    env: &E,
+    out: &mut W,
+    bytes: &[u8],
+    from: f64,
+    to: f64,
+) -> io::Result<()> {
     let pool = tape::pool::trail_pool();
     let mut times = blank_times();
     let mut levels = blank_levels();

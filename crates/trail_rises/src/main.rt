@@ -146,7 +146,9 @@ fn play<W: Write>(
         Call::Push(p) => list_rise(out, push(times, levels, marks, numbers, p)),
         Call::PushRelative(p) => list_rise(out, push_relative(times, levels, marks, numbers, p)),
         Call::PushDuration(p) => list_rise(out, push_duration(times, levels, marks, numbers, p)),
-        _ => play_other(out, times, levels, marks, numbers, kind, call, pool, samples),
+        _ => play_other(
+            out, times, levels, marks, numbers, kind, call, pool, samples,
+        ),
     }
 }
 

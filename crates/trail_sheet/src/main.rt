@@ -25,7 +25,13 @@ fn record<E: Eprint, F: FileExt>(rt: &E, file: &F, at: u64, first: bool) -> Read
 // Draws a clip that stands elsewhere than it did, and answers since when it stands where it does. What is let go stands so up to the page's end.
 fn draw_move<W: Write>(
     out: &mut W,
-    page: Page, clip: u64, was: u64, to: u64, from: u64, now: u64) -> io::Result<u64> {
+    page: Page,
+    clip: u64,
+    was: u64,
+    to: u64,
+    from: u64,
+    now: u64,
+) -> io::Result<u64> {
     if to == was {
         return Ok(from);
     }
@@ -131,7 +137,12 @@ fn base_if(kind: u8, now: u64, base: u64) -> u64 {
 // What is held at the end stands so up to the end.
 fn finish<W: Write>(
     out: &mut W,
-    page: Page, clips: &[u64], places: &[u64], since: &[u64], count: usize) -> io::Result<()> {
+    page: Page,
+    clips: &[u64],
+    places: &[u64],
+    since: &[u64],
+    count: usize,
+) -> io::Result<()> {
     let mut i = 0;
     while i < count {
         page::segment(
@@ -227,7 +238,9 @@ fn play_record<W: Write>(
     let base = base_if(kind, now, t.base);
     let laid = both(refusal == 0, tape::reader::is_push(kind));
     let place = tape_tracks::place_if(laid, s, clip);
-    let count = enter_if(out, laid, page, clips, places, since, t.count, clip, place, now)?;
+    let count = enter_if(
+        out, laid, page, clips, places, since, t.count, clip, place, now,
+    )?;
     let last = t.mark;
     let mark = page::mark(
         out,
@@ -276,8 +289,7 @@ fn play<E: Eprint, F: FileExt, W: Write>(
             return end_of(out, page, t, peaks, clips, places, since, stop_of(r));
         };
         t = play_record(
-            out,
-            page, t, kind, call, pool, samples, peaks, clips, places, since,
+            out, page, t, kind, call, pool, samples, peaks, clips, places, since,
         )?;
         if t.refusal == 1 {
             return end_of(out, page, t, peaks, clips, places, since, 1);
@@ -314,9 +326,13 @@ fn draw<E: Eprint, F: FileExt, W: Write>(
         first: 1,
         channels: 1,
     };
-    let page = play(rt, out, file, blank, pool, samples, peaks, clips, places, since)?;
+    let page = play(
+        rt, out, file, blank, pool, samples, peaks, clips, places, since,
+    )?;
     page::open(out, page, tape)?;
-    play(rt, out, file, page, pool, samples, peaks, clips, places, since)?;
+    play(
+        rt, out, file, page, pool, samples, peaks, clips, places, since,
+    )?;
     Ok(())
 }
 
@@ -324,7 +340,11 @@ fn draw<E: Eprint, F: FileExt, W: Write>(
 fn draw_file<E: Eprint, F: FileExt, W: Write>(
     rt: &E,
     out: &mut W,
-    file: &F, name: &[u8], pool: &[f32], count: usize) -> io::Result<()> {
+    file: &F,
+    name: &[u8],
+    pool: &[f32],
+    count: usize,
+) -> io::Result<()> {
     if pool.len() < count {
         return Ok(());
     }
@@ -351,7 +371,12 @@ fn draw_file<E: Eprint, F: FileExt, W: Write>(
 fn draw_named<E: Eprint, F: FileExt, W: Write>(
     rt: &E,
     out: &mut W,
-    file: &F, name: &[u8], letters: usize, pool: &[f32], count: usize) -> io::Result<()> {
+    file: &F,
+    name: &[u8],
+    letters: usize,
+    pool: &[f32],
+    count: usize,
+) -> io::Result<()> {
     if name.len() < letters {
         return Ok(());
     }

@@ -21,9 +21,7 @@ pub(crate) struct LastMark {
 }
 
 // Writes the first n bytes of a text, where it has so many.
-pub(crate) fn say<W: Write>(
-    out: &mut W,
-    text: &[u8], n: usize) -> io::Result<()> {
+pub(crate) fn say<W: Write>(out: &mut W, text: &[u8], n: usize) -> io::Result<()> {
     if text.len() < n {
         return Ok(());
     }
@@ -38,16 +36,19 @@ fn plus(a: u64, b: u64) -> u64 {
 
 fn axis_mark<W: Write>(
     out: &mut W,
-    page: Page, time: u64, step: u64, top: u64, height: u64) -> io::Result<()> {
+    page: Page,
+    time: u64,
+    step: u64,
+    top: u64,
+    height: u64,
+) -> io::Result<()> {
     let mut text = [0u8; 4096];
     let n = tape_sheet::put_axis_mark(time, page.total, step, top, height, &mut text, 0);
     say(out, &text, n)
 }
 
 // Lines through a group of lanes, with their times above.
-fn axis<W: Write>(
-    out: &mut W,
-    page: Page, top: u64, height: u64) -> io::Result<()> {
+fn axis<W: Write>(out: &mut W, page: Page, top: u64, height: u64) -> io::Result<()> {
     let step = chart::step(page.total);
     let mut t: u64 = 0;
     let mut left: u64 = 20;
@@ -63,9 +64,7 @@ fn axis<W: Write>(
 }
 
 // An axis for each group of 64 lanes.
-fn axes<W: Write>(
-    out: &mut W,
-    page: Page) -> io::Result<()> {
+fn axes<W: Write>(out: &mut W, page: Page) -> io::Result<()> {
     let mut i: u64 = 0;
     let mut left = page.lanes / 64;
     while left > 0 {
@@ -83,7 +82,12 @@ fn axes<W: Write>(
 // A clip's standing from a time to another.
 pub(crate) fn segment<W: Write>(
     out: &mut W,
-    page: Page, clip: u64, place: u64, from: u64, until: u64) -> io::Result<()> {
+    page: Page,
+    clip: u64,
+    place: u64,
+    from: u64,
+    until: u64,
+) -> io::Result<()> {
     if !page.draw {
         return Ok(());
     }
@@ -97,7 +101,11 @@ pub(crate) fn segment<W: Write>(
 // A lane's line, its number, and a mark where the clip was laid.
 pub(crate) fn lay<W: Write>(
     out: &mut W,
-    page: Page, clip: u64, place: u64, now: u64) -> io::Result<()> {
+    page: Page,
+    clip: u64,
+    place: u64,
+    now: u64,
+) -> io::Result<()> {
     if !page.draw {
         return Ok(());
     }
@@ -121,7 +129,13 @@ fn mark_at(m: LastMark, x: u64) -> LastMark {
 
 fn mark_refusal<W: Write>(
     out: &mut W,
-    page: Page, row: u64, kind: u8, clip: u64, refusal: u64, now: u64) -> io::Result<()> {
+    page: Page,
+    row: u64,
+    kind: u8,
+    clip: u64,
+    refusal: u64,
+    now: u64,
+) -> io::Result<()> {
     let mut text = [0u8; 4096];
     let n = tape_sheet::put_refused(page.total, row, kind, clip, refusal, now, &mut text, 0);
     say(out, &text, n)
@@ -130,7 +144,13 @@ fn mark_refusal<W: Write>(
 // An edit, in the strip and on its clip's lane.
 fn mark_edit<W: Write>(
     out: &mut W,
-    page: Page, row: u64, kind: u8, clip: u64, told: Answer, now: u64) -> io::Result<()> {
+    page: Page,
+    row: u64,
+    kind: u8,
+    clip: u64,
+    told: Answer,
+    now: u64,
+) -> io::Result<()> {
     let mut text = [0u8; 4096];
     let n = tape_sheet::put_edited(page.total, row, kind, clip, told, now, &mut text, 0);
     say(out, &text, n)?;
@@ -142,7 +162,12 @@ fn mark_edit<W: Write>(
 
 fn mark_lane<W: Write>(
     out: &mut W,
-    page: Page, kind: u8, clip: u64, told: Answer, now: u64) -> io::Result<()> {
+    page: Page,
+    kind: u8,
+    clip: u64,
+    told: Answer,
+    now: u64,
+) -> io::Result<()> {
     let mut text = [0u8; 4096];
     let n = tape_sheet::put_edited_lane(
         page.total, page.first, kind, clip, told, now, &mut text, 0,
@@ -151,9 +176,7 @@ fn mark_lane<W: Write>(
 }
 
 // A reset or a rate.
-fn mark_call<W: Write>(
-    out: &mut W,
-    page: Page, row: u64, kind: u8, now: u64) -> io::Result<()> {
+fn mark_call<W: Write>(out: &mut W, page: Page, row: u64, kind: u8, now: u64) -> io::Result<()> {
     let mut text = [0u8; 4096];
     let n = tape_sheet::put_called(page.total, row, page.lanes, kind, now, &mut text, 0);
     say(out, &text, n)
@@ -195,21 +218,25 @@ pub(crate) fn mark<W: Write>(
 
 // ---- the page
 
-fn swatch<W: Write>(
-    out: &mut W,
-    place: u64, x: u32) -> io::Result<()> {
+fn swatch<W: Write>(out: &mut W, place: u64, x: u32) -> io::Result<()> {
     let mut text = [0u8; 4096];
     let n = tape_sheet::put_swatch(place, x, &mut text, 0);
     say(out, &text, n)
 }
 
-fn style<W: Write>(
-    out: &mut W,
-    ) -> io::Result<()> {
-    out.write_all(b"<style>text{font-family:sans-serif;font-size:11px;fill:#000}.h{font-size:16px;font-weight:bold}.n{text-anchor:end}.t{font-size:10px;fill:#444}.z{font-size:14px;font-weight:bold}")?;
-    out.write_all(b".w{fill:#ffdf80;stroke:#8a6d00;stroke-width:.6}.s{fill:#164a8a}.f{fill:#8fc79a;stroke:#3d7a49;stroke-width:.6}.g{fill:#777}")?;
-    out.write_all(b".a{stroke:#ddd;fill:none}.l{stroke:#eee;fill:none}.p,.d{fill:#000}.b{fill:#fafafa;stroke:#bbb}.v,.o{stroke:#3f74b5;stroke-width:1.4;fill:none}.o{stroke:#000}")?;
-    out.write_all(b"rect.r{fill:#8b0000}text.r{fill:#fff;text-anchor:middle;font-weight:bold;font-size:10px}rect.e{fill:#fff;stroke:#000}text.e,text.c{text-anchor:middle;font-size:10px}rect.c{fill:#e4e4e4}path.c{stroke:#666;stroke-dasharray:3 3;fill:none}</style>\n")?;
+fn style<W: Write>(out: &mut W) -> io::Result<()> {
+    out.write_all(
+        b"<style>text{font-family:sans-serif;font-size:11px;fill:#000}.h{font-size:16px;font-weight:bold}.n{text-anchor:end}.t{font-size:10px;fill:#444}.z{font-size:14px;font-weight:bold}",
+    )?;
+    out.write_all(
+        b".w{fill:#ffdf80;stroke:#8a6d00;stroke-width:.6}.s{fill:#164a8a}.f{fill:#8fc79a;stroke:#3d7a49;stroke-width:.6}.g{fill:#777}",
+    )?;
+    out.write_all(
+        b".a{stroke:#ddd;fill:none}.l{stroke:#eee;fill:none}.p,.d{fill:#000}.b{fill:#fafafa;stroke:#bbb}.v,.o{stroke:#3f74b5;stroke-width:1.4;fill:none}.o{stroke:#000}",
+    )?;
+    out.write_all(
+        b"rect.r{fill:#8b0000}text.r{fill:#fff;text-anchor:middle;font-weight:bold;font-size:10px}rect.e{fill:#fff;stroke:#000}text.e,text.c{text-anchor:middle;font-size:10px}rect.c{fill:#e4e4e4}path.c{stroke:#666;stroke-dasharray:3 3;fill:none}</style>\n",
+    )?;
     Ok(())
 }
 
@@ -222,9 +249,7 @@ fn plain(b: u8) -> u8 {
 }
 
 // The tape's name, as it can stand in a page.
-fn name<W: Write>(
-    out: &mut W,
-    tape: &[u8]) -> io::Result<()> {
+fn name<W: Write>(out: &mut W, tape: &[u8]) -> io::Result<()> {
     let mut i = 0;
     while i < tape.len() {
         out.write_all(&[plain(tape[i])])?;
@@ -233,24 +258,22 @@ fn name<W: Write>(
     Ok(())
 }
 
-fn measures<W: Write>(
-    out: &mut W,
-    page: Page) -> io::Result<()> {
+fn measures<W: Write>(out: &mut W, page: Page) -> io::Result<()> {
     let mut text = [0u8; 4096];
     let n = tape_sheet::put_measures(page.lanes, page.channels, page.total, &mut text, 0);
     say(out, &text, n)
 }
 
-pub(crate) fn open<W: Write>(
-    out: &mut W,
-    page: Page, tape: &[u8]) -> io::Result<()> {
+pub(crate) fn open<W: Write>(out: &mut W, page: Page, tape: &[u8]) -> io::Result<()> {
     let mut text = [0u8; 4096];
     let n = tape_sheet::put_page(page.lanes, page.channels, &mut text, 0);
     say(out, &text, n)?;
     name(out, tape)?;
     out.write_all(b"</title>\n")?;
     style(out)?;
-    out.write_all(b"<rect width=\"1640\" height=\"100%\" fill=\"#fff\"/>\n<text class=\"h\" x=\"20\" y=\"26\">Proof sheet of ")?;
+    out.write_all(
+        b"<rect width=\"1640\" height=\"100%\" fill=\"#fff\"/>\n<text class=\"h\" x=\"20\" y=\"26\">Proof sheet of ",
+    )?;
     name(out, tape)?;
     out.write_all(b"</text>\n")?;
     measures(out, page)?;
@@ -258,13 +281,13 @@ pub(crate) fn open<W: Write>(
     swatch(out, 1, 280)?;
     swatch(out, 2, 390)?;
     swatch(out, 3, 500)?;
-    out.write_all(b"<text class=\"k\" x=\"600\" y=\"51\">a triangle in front of a bar: laid; above it: edited; a number on dark: a refused call, by its refusal; black wave: above 1.0</text>\n<text class=\"n\" x=\"162\" y=\"80\">calls</text>\n")?;
+    out.write_all(
+        b"<text class=\"k\" x=\"600\" y=\"51\">a triangle in front of a bar: laid; above it: edited; a number on dark: a refused call, by its refusal; black wave: above 1.0</text>\n<text class=\"n\" x=\"162\" y=\"80\">calls</text>\n",
+    )?;
     axes(out, page)
 }
 
-fn foot<W: Write>(
-    out: &mut W,
-    page: Page, s: Sequencer, pushes: u64) -> io::Result<()> {
+fn foot<W: Write>(out: &mut W, page: Page, s: Sequencer, pushes: u64) -> io::Result<()> {
     let mut text = [0u8; 4096];
     let n = tape_sheet::put_foot(page.lanes, page.channels, pushes, s.counts(), &mut text, 0);
     say(out, &text, n)
@@ -273,7 +296,12 @@ fn foot<W: Write>(
 // The waves, the sum, and what stops the tape.
 pub(crate) fn close<W: Write>(
     out: &mut W,
-    page: Page, s: Sequencer, peaks: &[u32], pushes: u64, stop: u64) -> io::Result<()> {
+    page: Page,
+    s: Sequencer,
+    peaks: &[u32],
+    pushes: u64,
+    stop: u64,
+) -> io::Result<()> {
     crate::waves::draw(out, page.lanes, page.channels, peaks)?;
     foot(out, page, s, pushes)?;
     let mut text = [0u8; 4096];

@@ -1,7 +1,7 @@
 // The wave of each channel: a peak for each of 1,401 columns, drawn as a bar about the middle.
+use crate::page::say;
 use std::io;
 use std::io::Write;
-use crate::page::say;
 use tape_pages::larger;
 
 fn plus(a: u64, b: u64) -> u64 {
@@ -84,18 +84,14 @@ fn peak_at(peaks: &[u32], row: u64, column: u64) -> u32 {
     if i < peaks.len() { peaks[i] } else { 0 }
 }
 
-fn bar<W: Write>(
-    out: &mut W,
-    bits: u32, column: u32, middle: u64) -> io::Result<()> {
+fn bar<W: Write>(out: &mut W, bits: u32, column: u32, middle: u64) -> io::Result<()> {
     let mut text = [0u8; 4096];
     let n = tape_sheet::put_bar(bits, column, middle, &mut text, 0);
     say(out, &text, n)
 }
 
 // A channel's peaks as bars; with `loud` only those above 1.0, which are drawn once more, in black.
-fn bars<W: Write>(
-    out: &mut W,
-    peaks: &[u32], row: u64, middle: u64, loud: bool) -> io::Result<()> {
+fn bars<W: Write>(out: &mut W, peaks: &[u32], row: u64, middle: u64, loud: bool) -> io::Result<()> {
     let mut column: u32 = 0;
     while column < 1401 {
         bar(
@@ -131,7 +127,11 @@ fn loudest_of(peaks: &[u32], row: u64) -> u32 {
 
 fn wave<W: Write>(
     out: &mut W,
-    lanes: u64, peaks: &[u32], channel: u32, row: u64) -> io::Result<()> {
+    lanes: u64,
+    peaks: &[u32],
+    channel: u32,
+    row: u64,
+) -> io::Result<()> {
     let mut text = [0u8; 4096];
     let n = tape_sheet::put_wave(lanes, channel, loudest_of(peaks, row), &mut text, 0);
     say(out, &text, n)?;
@@ -143,7 +143,12 @@ fn wave<W: Write>(
 }
 
 // The waves of up to eight channels.
-pub(crate) fn draw<W: Write>(out: &mut W, lanes: u64, channels: u64, peaks: &[u32]) -> io::Result<()> {
+pub(crate) fn draw<W: Write>(
+    out: &mut W,
+    lanes: u64,
+    channels: u64,
+    peaks: &[u32],
+) -> io::Result<()> {
     let mut c: u32 = 0;
     let mut row: u64 = 0;
     while c < 8 {

@@ -10,9 +10,7 @@ use tape::reader::{Call, Read};
 use tape_pages::{both, larger};
 
 // Writes the first n bytes of a text, where it has so many.
-fn say<W: Write>(
-    out: &mut W,
-    text: &[u8], n: usize) -> io::Result<()> {
+fn say<W: Write>(out: &mut W, text: &[u8], n: usize) -> io::Result<()> {
     if text.len() < n {
         return Ok(());
     }
@@ -21,9 +19,7 @@ fn say<W: Write>(
 
 // ---- clips
 
-fn tell_move<W: Write>(
-    out: &mut W,
-    clip: u64, was: u64, place: u64) -> io::Result<()> {
+fn tell_move<W: Write>(out: &mut W, clip: u64, was: u64, place: u64) -> io::Result<()> {
     let mut text = [0u8; 4096];
     let n = tape_story::put_move(clip, was, place, &mut text, 0);
     say(out, &text, n)
@@ -32,7 +28,12 @@ fn tell_move<W: Write>(
 // Where a count has changed, tells every clip that stands elsewhere than it did, keeps those that are held, and answers how many they are.
 fn follow<W: Write>(
     out: &mut W,
-    moved: bool, s: Sequencer, clips: &mut [u64], places: &mut [u64], count: usize) -> io::Result<usize> {
+    moved: bool,
+    s: Sequencer,
+    clips: &mut [u64],
+    places: &mut [u64],
+    count: usize,
+) -> io::Result<usize> {
     if !moved {
         return Ok(count);
     }
@@ -77,9 +78,7 @@ struct Quiet {
     peak: u32,
 }
 
-fn tell_quiet<W: Write>(
-    out: &mut W,
-    q: Quiet) -> io::Result<()> {
+fn tell_quiet<W: Write>(out: &mut W, q: Quiet) -> io::Result<()> {
     let mut text = [0u8; 4096];
     let n = tape_story::put_quiet(q.calls, q.since, q.peak, &mut text, 0);
     say(out, &text, n)
@@ -96,7 +95,11 @@ fn no_quiet() -> Quiet {
 // One more of them, or their end, which is told.
 fn quieter<W: Write>(
     out: &mut W,
-    q: Quiet, quiet: bool, clock: u64, peak: u32) -> io::Result<Quiet> {
+    q: Quiet,
+    quiet: bool,
+    clock: u64,
+    peak: u32,
+) -> io::Result<Quiet> {
     if !quiet {
         tell_quiet(out, q)?;
         return Ok(no_quiet());
@@ -117,7 +120,12 @@ fn quieter<W: Write>(
 
 fn begin_if<W: Write>(
     out: &mut W,
-    told: bool, clock: u64, kind: u8, clip: u64, refusal: u64) -> io::Result<()> {
+    told: bool,
+    clock: u64,
+    kind: u8,
+    clip: u64,
+    refusal: u64,
+) -> io::Result<()> {
     if told {
         let mut text = [0u8; 4096];
         let n = tape_story::put_begin(clock, kind, clip, refusal, &mut text, 0);
@@ -128,7 +136,13 @@ fn begin_if<W: Write>(
 
 fn answer_if<W: Write>(
     out: &mut W,
-    accepted: bool, s: Sequencer, kind: u8, told: Answer, clip: u64, place: u64) -> io::Result<()> {
+    accepted: bool,
+    s: Sequencer,
+    kind: u8,
+    told: Answer,
+    clip: u64,
+    place: u64,
+) -> io::Result<()> {
     if accepted {
         let mut text = [0u8; 4096];
         let n = tape_story::put_outcome(s, kind, told, clip, place, &mut text, 0);
@@ -139,7 +153,11 @@ fn answer_if<W: Write>(
 
 fn end_if<W: Write>(
     out: &mut W,
-    told: bool, each: usize, heard: bool, peak: u32) -> io::Result<()> {
+    told: bool,
+    each: usize,
+    heard: bool,
+    peak: u32,
+) -> io::Result<()> {
     if told {
         let mut text = [0u8; 4096];
         let n = tape_story::put_heard(each as u64, peak, heard, &mut text, 0);
@@ -148,17 +166,13 @@ fn end_if<W: Write>(
     Ok(())
 }
 
-fn tell_stop<W: Write>(
-    out: &mut W,
-    clock: u64, kind: u8, refusal: u64) -> io::Result<()> {
+fn tell_stop<W: Write>(out: &mut W, clock: u64, kind: u8, refusal: u64) -> io::Result<()> {
     let mut text = [0u8; 4096];
     let n = tape_story::put_stop(clock, kind, refusal, &mut text, 0);
     say(out, &text, n)
 }
 
-fn tell_sum<W: Write>(
-    out: &mut W,
-    clock: u64, s: Sequencer, pushes: u64) -> io::Result<()> {
+fn tell_sum<W: Write>(out: &mut W, clock: u64, s: Sequencer, pushes: u64) -> io::Result<()> {
     let mut text = [0u8; 4096];
     let n = tape_story::put_end(clock, pushes, s.counts(), &mut text, 0);
     say(out, &text, n)
@@ -199,9 +213,7 @@ fn untold() -> Told {
 }
 
 // The last lines: quiet calls, what stops the tape, and the sum.
-fn tell_end<W: Write>(
-    out: &mut W,
-    r: Read, t: Told) -> io::Result<()> {
+fn tell_end<W: Write>(out: &mut W, r: Read, t: Told) -> io::Result<()> {
     let quiet = t.quiet;
     tell_quiet(out, quiet)?;
     let s = t.sequencer;
@@ -237,11 +249,26 @@ fn tell_record<W: Write>(
     let quiet_now = both(still, heard);
     let quiet_before = t.quiet;
     let quiet = quieter(out, quiet_before, quiet_now, clock, peak)?;
-    begin_if(out, !quiet_now, clock, kind, tape_tracks::edited(call), refusal)?;
+    begin_if(
+        out,
+        !quiet_now,
+        clock,
+        kind,
+        tape_tracks::edited(call),
+        refusal,
+    )?;
     let laid = both(refusal == 0, tape::reader::is_push(kind));
     let place = tape_tracks::place_if(laid, s, clip);
     let count = enter_if(laid, clips, places, t.count, clip, place);
-    answer_if(out, both(refusal == 0, !quiet_now), s, kind, told, clip, place)?;
+    answer_if(
+        out,
+        both(refusal == 0, !quiet_now),
+        s,
+        kind,
+        told,
+        clip,
+        place,
+    )?;
     let count = follow(out, !still, s, clips, places, count)?;
     end_if(out, !quiet_now, a.each, heard, peak)?;
     Ok(Told {
@@ -258,7 +285,11 @@ fn tell<E: Eprint, F: FileExt, W: Write>(
     rt: &E,
     out: &mut W,
     file: &F,
-    pool: &[f32], samples: &mut [f32], clips: &mut [u64], places: &mut [u64]) -> io::Result<()> {
+    pool: &[f32],
+    samples: &mut [f32],
+    clips: &mut [u64],
+    places: &mut [u64],
+) -> io::Result<()> {
     let mut t = untold();
     let mut first = true;
     let mut at: u64 = 0;
@@ -282,14 +313,24 @@ fn tell_file<E: Eprint, F: FileExt, W: Write>(
     rt: &E,
     out: &mut W,
     file: &F,
-    pool: &[f32], count: usize) -> io::Result<()> {
+    pool: &[f32],
+    count: usize,
+) -> io::Result<()> {
     if pool.len() < count {
         return Ok(());
     }
     let mut samples = apply::silence();
     let mut clips = tape_tracks::row();
     let mut places = tape_tracks::row();
-    tell(rt, out, file, &pool[..count], &mut samples, &mut clips, &mut places)
+    tell(
+        rt,
+        out,
+        file,
+        &pool[..count],
+        &mut samples,
+        &mut clips,
+        &mut places,
+    )
 }
 
 fn main(rt: HostRuntime) -> io::Result<()> {

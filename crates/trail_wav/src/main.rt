@@ -212,7 +212,15 @@ fn roll<R: Print + Eprint, I: io::Read, F: Write + FileExt>(
             let a = apply::apply(s, call, pool, &mut samples);
             s = a.sequencer;
             if a.refusal == 1 {
-                finish(rt, terminal, to, &data, used, heard.ended(Ending::Refusal(1)), s.outputs);
+                finish(
+                    rt,
+                    terminal,
+                    to,
+                    &data,
+                    used,
+                    heard.ended(Ending::Refusal(1)),
+                    s.outputs,
+                );
                 return;
             }
             let most = loudest(&samples, a.channels, a.each, a.stride, heard.most);
@@ -223,7 +231,15 @@ fn roll<R: Print + Eprint, I: io::Read, F: Write + FileExt>(
             }
             if is_full(&data, used) {
                 if !write_out(to, &data, used) {
-                    finish(rt, terminal, to, &data, 0, heard.ended(Ending::Unwritten), s.outputs);
+                    finish(
+                        rt,
+                        terminal,
+                        to,
+                        &data,
+                        0,
+                        heard.ended(Ending::Unwritten),
+                        s.outputs,
+                    );
                     return;
                 }
                 say::progress(rt, terminal, heard.frames);

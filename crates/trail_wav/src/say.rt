@@ -81,9 +81,7 @@ impl Display for Peak {
         if 0x7F80_0000 < most {
             return f.write_str("NaN");
         }
-        let number = Number(std::num::f32_to_f64_with_nan(float_bits::f32_from_bits(
-            most,
-        )));
+        let number = Number(std::num::f32_to_f64_with_nan(float_bits::f32_from_bits(most)));
         write!(f, "{number}")
     }
 }
@@ -96,11 +94,17 @@ impl Display for Ending {
             Ending::Refusal(n) => write!(f, "refusal {n}"),
             Ending::OtherRate(rate) => {
                 let rate = Number(rate);
-                write!(f, "another rate: samples at {rate} Hz, and a WAV has one rate")
+                write!(
+                    f,
+                    "another rate: samples at {rate} Hz, and a WAV has one rate"
+                )
             }
             Ending::NoWholeRate(rate) => {
                 let rate = Number(rate);
-                write!(f, "a rate that is no whole number: {rate} Hz, and a WAV's is whole")
+                write!(
+                    f,
+                    "a rate that is no whole number: {rate} Hz, and a WAV's is whole"
+                )
             }
             Ending::Full => {
                 f.write_str("the header, which counts no more than 4294967295 frames")
@@ -135,7 +139,9 @@ pub(crate) fn summary<R: Print + Eprint>(rt: &R, terminal: bool, heard: Heard, c
     let frames = heard.frames;
     let peak = Peak(heard.most);
     let unit = if channels == 1 { "channel" } else { "channels" };
-    let _ = println!(rt; "{channels} {unit}, {rate} Hz, {frames} frames, peak {peak}, ended by {ending}");
+    let _ = println!(rt;
+        "{channels} {unit}, {rate} Hz, {frames} frames, peak {peak}, ended by {ending}"
+    );
     if !is_whole(ending) {
         let _ = eprintln!(rt; "trail_wav: the tape was cut short by {ending}");
     }

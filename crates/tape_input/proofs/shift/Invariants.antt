@@ -1,5 +1,5 @@
 -- The first `to` bytes are moved, and those behind them stand as they were.
-use Rattle.std.proofs.Common.{◌-◌, ◌≡◌, ◌+◌, ◌≤◌, min, length, take, drop, ℕ, List, slice_index}
+use Rattle.std.proofs.Common.{◌-◌, ◌≡◌, ◌+◌, ◌≤◌, min, length, take, drop, ℕ, List}
 use Rattle.tape_input.proofs.shift.Given as goal
 
 pub record Moved (before : List ℕ) (at have : ℕ) (now : List ℕ) (to from : ℕ) : Type 0 where
