@@ -1,11 +1,6 @@
 pub mod Sift
 pub mod Waiting
 pub mod Steps
-pub mod Rounds
 pub mod Levels
-pub mod HeapOrder
-pub mod Sorted
-pub mod Stands
 pub mod EventSet
-pub mod Waits
 pub mod Cases

@@ -3,8 +3,4 @@ pub mod Exact
 pub mod Theorem
 pub mod Cases
 pub mod Contributions
-pub mod AnyOrder
-pub mod Qualifying
-pub mod Marked
-pub mod Engines
 pub mod CasesOfOrder

@@ -11,7 +11,7 @@ use Rattle.std.proofs.Math.Decide.{ℕ_discrete}
 use Rattle.std.proofs.Math.Seq.{take-set-lt}
 use Rattle.std.proofs.lemmas.List.{set-get_or}
 use Rattle.ready.specs.Sift.{rise, sink}
-use Rattle.ready.specs.HeapOrder.{Order, Heap-ordered, Moves, moves_perm, moves-drop, moves-length, rise_moves, sink_moves, push-ordered, pop_ordered, root_least, perm_eq, one}
+use Rattle.ready.proofs.HeapOrder.{Order, Heap-ordered, Moves, moves_perm, moves-drop, moves-length, rise_moves, sink_moves, push-ordered, pop_ordered, root_least, perm_eq, one}
 
 -- a permutation is as long
 permᴰ_length : {A : Type 0} {l m : List A} → Permᴰ l m → length l ≡ length m

@@ -25,8 +25,8 @@ use Rattle.ledger.proofs.Refused.{all_pass}
 use Rattle.ledger.specs.Steps.{advance, in_order, span_of, cleared, accept, decide, step, run}
 use Rattle.ledger.proofs.Sums.{event_sum_one}
 use Rattle.sums.specs.Contributions.{All, TickQualifies, BlockQualifies}
-use Rattle.sums.specs.AnyOrder.{tick_any_order, block-any_order}
-use Rattle.sums.specs.Qualifying.{tick_qualifies, block_qualifies}
+use Rattle.sums.proofs.AnyOrder.{tick_any_order, block-any_order}
+use Rattle.sums.proofs.Qualifying.{tick_qualifies, block_qualifies}
 
 -- The samples of a marked tick or block beside those of the unmarked one; ledger and answer are the same anyway (`tick_as_unmarked`, `block_as_unmarked`). The sample at place k of channel c of a block is the output's at 64 × c + k.
 pub record WithoutConsequence (l : Ledger) : Type 0 where

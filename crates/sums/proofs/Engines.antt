@@ -13,7 +13,7 @@ use Rattle.ledger.specs.Ledger.{Ledger, create}
 use Rattle.ledger.specs.Refusals.{tick_end, block_end}
 use Rattle.ledger.specs.Steps.{advance, span_of, step, run}
 use Rattle.sums.specs.Contributions.{All, TickQualifies, BlockQualifies}
-use Rattle.sums.specs.Marked.{reached}
+use Rattle.sums.proofs.Marked.{reached}
 
 -- an engine in the state s, and the ledger after the same calls
 pub record SameSamples (E : Engine) (s : E.State) (l : Ledger) : Type 0 where

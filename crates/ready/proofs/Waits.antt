@@ -12,10 +12,10 @@ use Rattle.ready.specs.declared.Ready.{Ready}
 use Rattle.event.specs.Runs.{get_or_in}
 use Rattle.ready.specs.Sift.{sink, parent}
 use Rattle.ready.specs.Waiting.{peeked, pushed, popped, emptied}
-use Rattle.ready.specs.HeapOrder.{Heap-ordered, perm_eq, rise_moves, sink_moves, moves-length}
+use Rattle.ready.proofs.HeapOrder.{Heap-ordered, perm_eq, rise_moves, sink_moves, moves-length}
 use Rattle.ledger.proofs.Sorted.{Sorted}
-use Rattle.ready.specs.Sorted.{insert_perm, earlier_order}
-use Rattle.ready.specs.Stands.{Stands, stands-length, stands-push, stands_pop}
+use Rattle.ready.proofs.Sorted.{insert_perm, earlier_order}
+use Rattle.ready.proofs.Stands.{Stands, stands-length, stands-push, stands_pop}
 use Rattle.ready.specs.EventSet.{Event_set}
 
 -- the heap's first `len` events are heap-ordered, and w's, each once

@@ -1,0 +1,5 @@
+-- Lemmas, and the theorems that rest on definitions of specs/.
+pub mod AnyOrder
+pub mod Engines
+pub mod Marked
+pub mod Qualifying
