@@ -2,6 +2,5 @@ pub mod Answers
 pub mod Queues
 pub mod QueueLaws
 pub mod Handling
-pub mod HandlingLaws
 pub mod Fronts
 pub mod Backs

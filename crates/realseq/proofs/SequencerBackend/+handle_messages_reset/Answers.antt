@@ -1,6 +1,6 @@
 use Rattle.std.proofs.Common.{◌≡◌, ℕ, ◌<◌, sym, ap, ◌∙◌, arith, rules}
 use Rattle.realseq.specs.Handling as spec
-use Rattle.realseq.specs.HandlingLaws.{until_settled, taken-less, settled-reset, drained-none, Settled}
+use Rattle.realseq.proofs.HandlingLaws.{until_settled, taken-less, settled-reset, drained-none, Settled}
 use Rattle.realseq.proofs.SequencerBackend.+handle_messages_reset.Goals as goal
 
 pub handle_messages-reset-self-requires : goal.handle_messages-reset-self-requires

@@ -1,6 +1,6 @@
 use Rattle.std.proofs.Common.{◌≡◌, ◌<◌, sym, ap, ◌∙◌, arith, rules}
 use Rattle.realseq.specs.Handling as spec
-use Rattle.realseq.specs.HandlingLaws.{until_settled, settled-reset, drained-none, Settled}
+use Rattle.realseq.proofs.HandlingLaws.{until_settled, settled-reset, drained-none, Settled}
 use Rattle.realseq.proofs.SequencerBackend.drain.Goals as goal
 
 -- a reset is first: it acts when the others are handled

@@ -2,7 +2,7 @@
 use Rattle.std.proofs.Common.{◌≡◌, sym, refl, ap, ◌∙◌, rules}
 use Rattle.realseq.specs.Queues.{is_reset}
 use Rattle.realseq.specs.Handling.{until_reset}
-use Rattle.realseq.specs.HandlingLaws.{until_none, until_stop, until_on}
+use Rattle.realseq.proofs.HandlingLaws.{until_none, until_stop, until_on}
 use Rattle.realseq.proofs.SequencerBackend.handle_until_reset.Goals as goal
 
 pub loop-q-smaller : goal.loop-q-smaller

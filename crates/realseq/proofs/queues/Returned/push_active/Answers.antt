@@ -1,7 +1,7 @@
 -- `realseq::queues::Returned::push_active` meets its contract. The loop keeps what the definition sends from place i - 1 down. Assumes nothing.
 use Rattle.std.proofs.Common.{◌≡◌, ◌≤◌, min, sym, ◌∙◌, arith, rules}
 use Rattle.realseq.specs.Handling.{sent_down}
-use Rattle.realseq.specs.HandlingLaws.{down-same, down_on, down-none}
+use Rattle.realseq.proofs.HandlingLaws.{down-same, down_on, down-none}
 use Rattle.realseq.proofs.queues.Returned.push_active.Goals as goal
 
 pub loop-i-init : goal.loop-i-init

@@ -1,7 +1,7 @@
 -- `realseq::queues::Returned::push_ready` meets its contract. The loop keeps what the definition sends of the heap's first i. Assumes nothing.
 use Rattle.std.proofs.Common.{◌≡◌, min, sym, ◌∙◌, arith, rules}
 use Rattle.realseq.specs.Handling.{sent_ready}
-use Rattle.realseq.specs.HandlingLaws.{ready_same, ready_on, ready_none}
+use Rattle.realseq.proofs.HandlingLaws.{ready_same, ready_on, ready_none}
 use Rattle.realseq.proofs.queues.Returned.push_ready.Goals as goal
 
 pub loop-i-init : goal.loop-i-init
