@@ -1,5 +1,6 @@
 -- `sequencer::Sequencer::ready_to_active` meets its contract.
-use Rattle.std.proofs.Common.{◌≡◌, get_or, sym, refl, ap, ◌∙◌, subst, arith, rules}
+use Rattle.std.proofs.Common.{◌≡◌, ◌<◌, sym, refl, ap, ◌∙◌, subst, arith, rules}
+use Rattle.std.specs.Prelude.{slice_index_or}
 use borrow.Author.Tests.{not-true, not-false}
 use lib.Ieee.{of_bits}
 use Rattle.event.specs.Blank.{blank}
@@ -17,17 +18,16 @@ loop-self-init c = record { fuel = c.args.self.ready_len; enough = omega arith; 
 
 pub loop-self-smaller : goal.loop-self-smaller
 loop-self-smaller c =
-    let d = c.before.before.before.before in
-    let s = d.loop-self.self in
-    let p = d.loop-self-test.true in
-    let e = ap (λ (x : Sequencer). x.ready_len) c.start_first-self.ensures ∙ activated_len s (get_or s.ready 0 blank) p d.if-self-gt256.false in
-    omega (arith, p, e)
+    let s = c.loop-self.self in
+    let some : 0 < s.ready_len = omega (arith, c.loop-self-test.true) in
+    let e = ap (λ (x : Sequencer). x.ready_len) c.start_first-self.ensures ∙ activated_len s (slice_index_or s.ready 0 blank) some c.if-self-gt256.false in
+    omega (arith, some, e)
 
 pub loop-self-preserved : goal.loop-self-preserved
 loop-self-preserved c =
-    let d = c.before.before.before.before in
-    let l = d.loop-self in
-    carried c.start_first-self.ensures (activating_on l.self _ d.loop-self-test.true d.if-self-gt256.false (not-false _ c.if-not-first-self.false-raw) l.invariant)
+    let l = c.loop-self in
+    let some : 0 < l.self.ready_len = omega (arith, c.loop-self-test.true) in
+    carried c.start_first-self.ensures (activating_on l.self _ some c.if-self-gt256.false (not-false _ c.if-not-first-self.false-raw) l.invariant)
 
 pub returns-after-loop-self : goal.returns-after-loop-self
 unfolding of_bits
