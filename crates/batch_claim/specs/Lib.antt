@@ -1,9 +1,4 @@
 pub mod Singles
-pub mod SinglesProof
 pub mod Lists
-pub mod ListsProof
 pub mod WithBatches
-pub mod Theorem
 pub mod Extent
-pub mod ExtentProof
-pub mod Cases

@@ -9,7 +9,7 @@ use Rattle.ledger.proofs.LedgerMeets.{pair_of, engine_of}
 use Rattle.ledger.specs.Claim.{accepted, Engine, engine_after, ledger_after, AllLend, ClaimAt}
 use Rattle.sequencer.specs.declared.Sequencer.{Sequencer}
 use Rattle.claim.specs.EngineCalls.{engine_new, engine}
-use Rattle.claim.specs.Theorem.{after}
+use Rattle.claim.specs.CarriedOut.{after}
 use Rattle.batch_claim.specs.Lists.{Item, ItemReply, items, flat, parts, numbers_of, all_numbers, SameItems}
 
 -- the plain ledger as something that has calls

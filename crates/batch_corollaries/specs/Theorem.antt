@@ -12,7 +12,7 @@ use Rattle.standing.specs.Theorem.{Drawn}
 use Rattle.standing.proofs.Theorem.{drawn}
 use Rattle.batch_claim.specs.Lists.{Item, all_numbers, ItemsLend}
 use Rattle.batch_claim.specs.WithBatches.{engine_then, ledger_then, replies_then}
-use Rattle.batch_claim.specs.Theorem.{with_runs}
+use Rattle.batch_claim.proofs.Theorem.{with_runs}
 
 module _ (channels : ℕ) (mode : ReplayMode) (first : ℕ) (f : first < 2 ^ 64) (is : List Item) (lent : ItemsLend engine.lends is) where
   -- Paper 4: the clips of a stretch and the first waiting event are the ledger's

@@ -13,6 +13,4 @@ pub mod RefusalsAgree
 pub mod Passes
 pub mod SamplesAgree
 pub mod EngineCalls
-pub mod Steps
-pub mod Theorem
-pub mod Refused
+pub mod CarriedOut

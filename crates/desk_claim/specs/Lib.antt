@@ -1,12 +1,5 @@
 pub mod Ring
 pub mod ReturnQueue
 pub mod Related
-pub mod Messages
-pub mod LettingGo
-pub mod Draining
 pub mod EngineCalls
-pub mod Refusals
-pub mod Fronts
-pub mod Backs
-pub mod Theorem
-pub mod Refused
+pub mod CarriedOut

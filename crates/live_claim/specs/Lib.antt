@@ -1,3 +1,2 @@
 -- Everything in this library.
 pub mod LiveCalls
-pub mod Theorem

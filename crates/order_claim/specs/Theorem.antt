@@ -5,7 +5,8 @@ use Rattle.ledger.specs.Calls.{Call}
 use Rattle.ledger.specs.Claim.{ledger_after, AllLend}
 use Rattle.sums.proofs.Engines.{SameSamples, same_samples_lem}
 use Rattle.claim.specs.EngineCalls.{engine}
-use Rattle.claim.specs.Theorem.{claim, after}
+use Rattle.claim.specs.CarriedOut.{after}
+use Rattle.claim.proofs.Theorem.{claim}
 
 pub engine-same_samples : (channels : ℕ) (mode : ReplayMode) (first : ℕ) (cs : List Call) → first < 2 ^ 64 → AllLend engine.lends cs
     → SameSamples engine (after channels mode first cs) (ledger_after channels mode first cs).ledger

@@ -20,7 +20,8 @@ use Rattle.ledger.specs.Claim.{SameState, AllLend, ledger_after}
 use Rattle.sequencer.specs.declared.Sequencer.{Sequencer}
 use Rattle.claim.specs.View.{view_of}
 use Rattle.claim.specs.EngineCalls.{engine}
-use Rattle.claim.specs.Theorem.{claim, after}
+use Rattle.claim.specs.CarriedOut.{after}
+use Rattle.claim.proofs.Theorem.{claim}
 use Rattle.overlap.specs.declared.Found.{Found}
 use Rattle.overlap.specs.declared.Found.TheVariants as found
 use Rattle.overlap.specs.declared.FirstWaiting.{FirstWaiting}

@@ -33,7 +33,7 @@ use Rattle.sequencer.specs.Resets.{rates, resets}
 use Rattle.claim.specs.Related.{Related}
 use Rattle.claim.specs.Creating.{related_creation}
 use Rattle.claim.specs.EngineCalls.{gives}
-use Rattle.claim.specs.Steps.{Keeps, keep-push, keep-edit, keep_tick, keep-block, keep-rate, keep-reset}
+use Rattle.claim.proofs.Steps.{Keeps, keep-push, keep-edit, keep_tick, keep-block, keep-rate, keep-reset}
 use Rattle.tape.specs.declared.reader.Call.{Call}
 use Rattle.tape.specs.declared.reader.Call.TheVariants.{Create, Push, PushRelative, PushDuration, Edit, EditRelative, Tick, Process, Reset, SetSampleRate}
 use Rattle.tape.specs.declared.reader.Cursor.{Cursor}

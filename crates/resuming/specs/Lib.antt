@@ -1,7 +1,3 @@
 pub mod Parts
-pub mod Samples
-pub mod Fuel
+pub mod Again
 pub mod Resumes
-pub mod Reasons
-pub mod Moved
-pub mod Onward

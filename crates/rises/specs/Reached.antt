@@ -28,8 +28,8 @@ use Rattle.claim.specs.Related.{Related}
 use Rattle.claim.specs.Creating.{related_creation}
 use Rattle.claim.specs.Shows.{shows}
 use Rattle.claim.specs.EngineCalls.{engine}
-use Rattle.claim.specs.Steps.{keep}
-use Rattle.claim.specs.Theorem.{after}
+use Rattle.claim.proofs.Steps.{keep}
+use Rattle.claim.specs.CarriedOut.{after}
 use Rattle.rises.specs.Way.{way_up, later_at, levels_on_way}
 use Rattle.rises.specs.Totals.{Push, pushed_by, is_number, levels_risen}
 use Rattle.rises.specs.Single.{no_of, event_of, entered_by, push-is, levels_of}

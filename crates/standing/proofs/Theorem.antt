@@ -17,7 +17,8 @@ use Rattle.ledger.proofs.Partition.{is, times-is, once_or_never}
 use Rattle.sequencer.specs.declared.Sequencer.{Sequencer}
 use Rattle.claim.specs.View.{view_of}
 use Rattle.claim.specs.EngineCalls.{engine}
-use Rattle.claim.specs.Theorem.{claim, after}
+use Rattle.claim.specs.CarriedOut.{after}
+use Rattle.claim.proofs.Theorem.{claim}
 use Rattle.standing.specs.Theorem.{lists, is_let_go, Drawn}
 use Rattle.standing.specs.Standings.{placed, standing_in, standing_of}
 

@@ -1,5 +1,2 @@
 pub mod Listing
 pub mod Calls
-pub mod Cases
-pub mod Listed
-pub mod Pieces

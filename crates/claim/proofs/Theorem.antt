@@ -16,7 +16,8 @@ use Rattle.claim.specs.Creating.{related_creation}
 use Rattle.claim.specs.View.{view_of}
 use Rattle.claim.specs.Shows.{shows}
 use Rattle.claim.specs.EngineCalls.{engine_new, engine_call, engine}
-use Rattle.claim.specs.Steps.{keep}
+use Rattle.claim.specs.CarriedOut.{after, Does}
+use Rattle.claim.proofs.Steps.{keep}
 
 start : (channels : ℕ) (mode : ReplayMode) (first : ℕ) → first < 2 ^ 64
     → ((engine_new channels mode first).1 ≡ (create channels mode first).answer) × Related (engine_new channels mode first).0 (create channels mode first).ledger
@@ -28,18 +29,6 @@ pub claim : Claim engine
 claim = claim_by_relation engine Related start keep shows
 
 -- ---- a call that no refusal names is carried out, after any list of calls
-
--- the engine after a creation and a list of calls
-abbrev pub after : (channels : ℕ) → ReplayMode → (first : ℕ) → List Call → Sequencer
-after channels mode first cs = (calls engine cs (engine_new channels mode first).0).0
-
--- the state; its index; the next number
-abbrev pub Shows : Sequencer → Ledger → Type 0
-Shows s l = SameState (view_of s) l × IndexGivesPlaces (view_of s) × ((view_of s).next ≡ l.next % 2 ^ 64)
-
--- a call's reply and what it leaves are those of an outcome of the ledger
-abbrev pub Does : Sequencer → Call → Outcome → Type 0
-Does s c o = SameReply (engine_call s c).1 o.reply × Shows (engine_call s c).0 o.ledger
 
 pub carried_out_lem : (channels : ℕ) (mode : ReplayMode) (first : ℕ) (cs : List Call) (c : Call) → first < 2 ^ 64 → AllLend engine.lends cs → Lends engine.lends c
     → (let l = (ledger_after channels mode first cs).ledger in refusal l c ≡ none → Does (after channels mode first cs) c (accept l c))

@@ -22,7 +22,8 @@ use Rattle.record_output.specs.Lines.{room_for}
 use Rattle.record_output.specs.Endings.{Ending, refused_line, ending, is_short}
 use Rattle.player.specs.Records.{Ran, stops, behind, left_by, after_call, after_read, ran}
 use Rattle.tape.specs.Cursors.{moves}
-use Rattle.resuming.specs.Fuel.{silence, again, unrolls}
+use Rattle.resuming.specs.Again.{silence, again}
+use Rattle.resuming.proofs.Unrolls.{unrolls}
 
 -- the reasons that a run can give, by what it is told of its tape
 abbrev pub Possible : (whole : Bool) → Pause → Type 0

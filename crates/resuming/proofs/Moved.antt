@@ -18,7 +18,8 @@ use Rattle.record_output.specs.Lines.{room_for}
 use Rattle.record_output.specs.Endings.{ending, is_short}
 use Rattle.player.specs.Records.{Ran, stops, behind, left_by, after_call, after_read, ran}
 use Rattle.tape.specs.Cursors.{moves}
-use Rattle.resuming.specs.Fuel.{silence, again, unrolls}
+use Rattle.resuming.specs.Again.{silence, again}
+use Rattle.resuming.proofs.Unrolls.{unrolls}
 
 -- a cursor with k bytes fewer before it, and what the records leave, with such a cursor
 abbrev pub back : (k : ℕ) → Cursor → Cursor

@@ -12,12 +12,13 @@ use Rattle.record_output.specs.declared.Pause.{Pause}
 use Rattle.record_output.specs.declared.Pause.TheVariants.{End, Refused, Full, Short}
 use Rattle.player.specs.Records.{Ran, behind, ran}
 use Rattle.resuming.specs.Parts.{AtHand}
-use Rattle.resuming.specs.Resumes.{waits, resumes}
-use Rattle.resuming.specs.Moved.{moved}
-use Rattle.resuming.specs.Reasons.{Possible, possible}
-use Rattle.resuming.specs.Onward.{onward, full-moves}
+use Rattle.resuming.specs.Resumes.{waits}
+use Rattle.resuming.proofs.Resuming.{resumes}
+use Rattle.resuming.proofs.Moved.{moved}
+use Rattle.resuming.proofs.Reasons.{Possible, possible}
+use Rattle.resuming.proofs.Onward.{onward, full-moves}
 use Rattle.tape_listing.specs.Listing.{listed_with}
-use Rattle.tape_listing.specs.Listed.{runs_listed}
+use Rattle.tape_listing.proofs.Listed.{runs_listed}
 use Rattle.tape_listing.specs.Calls.{tape_of, next_read, later_reads, Lister, begins, call, resumed, read_on, written_after, written}
 
 -- the tape from the bytes at hand on

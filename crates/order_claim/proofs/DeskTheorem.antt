@@ -5,9 +5,10 @@ use Rattle.event.specs.declared.ReplayMode.{ReplayMode}
 use Rattle.desk.specs.Claim.{desk_after}
 use Rattle.desk.specs.Desk.{Call}
 use Rattle.desk_claim.specs.EngineCalls.{desk_engine}
-use Rattle.desk_claim.specs.Theorem.{desk-claim, after}
+use Rattle.desk_claim.specs.CarriedOut.{after}
+use Rattle.desk_claim.proofs.Theorem.{desk-claim}
 use Rattle.order_claim.specs.DeskOrder.{SameDeskSamples}
-use Rattle.order_claim.specs.DeskOrderProof.{same-desk_samples}
+use Rattle.order_claim.proofs.DeskOrderProof.{same-desk_samples}
 
 pub desk-same_samples : (channels : ℕ) (mode : ReplayMode) (first : ℕ) (cs : List Call) → first < 2 ^ 64
     → SameDeskSamples desk_engine (after channels mode first cs) (desk_after channels mode first cs).desk

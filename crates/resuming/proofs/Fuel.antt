@@ -1,4 +1,4 @@
--- The records that a tape has are no more than its bytes, so more fuel than bytes changes nothing; and a run is its first record, then a run: no fuel and no samples are left in that. Assumes nothing.
+-- The records that a tape has are no more than its bytes, so more fuel than bytes changes nothing. Assumes nothing.
 use Rattle.std.specs.Prelude.{◌≡◌, Bool, cond, Float, replicate}
 use Rattle.std.proofs.Math.Path.{refl, sym, ap}
 use Rattle.std.proofs.Common.{◌∙◌, arith, le-ltb, lt-ltb}
@@ -17,15 +17,7 @@ use Rattle.record_output.specs.declared.Pause.TheVariants.{Short}
 use Rattle.record_output.specs.Endings.{is_short}
 use Rattle.player.specs.Records.{Rest, stops, after_read, at_end, ran_from, ran}
 use Rattle.tape.specs.Cursors.{moves}
-use Rattle.resuming.specs.Samples.{read_alike, next_alike, same_samples_lem}
-
--- the output of silence that a run's engine is lent first
-abbrev pub silence : List Float
-silence = replicate 512 zeroᶠ
-
--- a run as what comes behind a record
-abbrev pub again : Form → (pool : List Float) → (tape : List ℕ) → (whole : Bool) → Rest
-again form pool tape whole s c samples room = ran form pool tape whole s c room
+use Rattle.resuming.proofs.Samples.{read_alike, next_alike, same_samples_lem}
 
 module _ (form : Form) (pool : List Float) (tape : List ℕ) (whole : Bool) where
   -- where no byte is left nothing is read
@@ -48,15 +40,3 @@ module _ (form : Form) (pool : List Float) (tape : List ℕ) (whole : Bool) wher
       ap (cond (is_short whole (length tape) c.at) (stops s c [] Short))
       (next_alike form pool (ran_from form pool tape whole f) (ran_from form pool tape whole g) (read_at tape c) s c samples room
       (λ k call next e t v left. let m = moves tape c k call next e in enough_fuel f g t next v left (omega arith) (omega arith)))
-
-  -- a run is its first record, then a run
-  pub unrolls : (s : Sequencer) (c : Cursor) (room : ℕ)
-      → ran form pool tape whole s c room ≡ cond (is_short whole (length tape) c.at) (stops s c [] Short) (after_read form pool (again form pool tape whole) (read_at tape c) s c silence room)
-  unfolding ran ran_from
-  unrolls s c room =
-      let n : ℕ = length tape in
-      let long : length silence ≡ 512 = length-replicate 512 zeroᶠ in
-      enough_fuel n (suc n) s c silence room (omega arith) (omega arith)
-      ∙ ap (cond (is_short whole (length tape) c.at) (stops s c [] Short))
-      (read_alike form pool (ran_from form pool tape whole n) (again form pool tape whole) (read_at tape c) s c silence silence room long long
-      (λ t d v w left p q. same_samples_lem form pool tape whole n t d v silence left p long))

@@ -13,15 +13,16 @@ use Rattle.sequencer.specs.declared.Sequencer.{Sequencer}
 use Rattle.claim.specs.Related.{Related}
 use Rattle.claim.specs.Creating.{related_creation}
 use Rattle.claim.specs.EngineCalls.{engine_new, engine}
-use Rattle.claim.specs.Steps.{keep}
-use Rattle.claim.specs.Theorem.{claim, after}
+use Rattle.claim.proofs.Steps.{keep}
+use Rattle.claim.specs.CarriedOut.{after}
+use Rattle.claim.proofs.Theorem.{claim}
 use Rattle.tape.specs.Tape.{kind_of, size_of}
 use Rattle.batch.specs.Records.{beyond, stop_of, call_of}
 use Rattle.apply.specs.RecordCalls.{refusal_of}
 use Rattle.batch.specs.Run.{Pushed, ends, behind, push_run, push_all, written}
 use Rattle.batch_claim.specs.Singles.{reading, up_to_refused, singles}
 use Rattle.batch_claim.specs.Lists.{Item, single, batch, ItemReply, answer_of, items, flat, parts, numbers_of, all_numbers, ItemsLend, SameItem, SameItems}
-use Rattle.batch_claim.specs.ListsProof.{items-flat, lend_reading, lend_flat, parts_whole, numbers-by-item, numbers-flat}
+use Rattle.batch_claim.proofs.ListsProof.{items-flat, lend_reading, lend_flat, parts_whole, numbers-by-item, numbers-flat}
 use Rattle.batch_claim.specs.WithBatches.{plain, single_calls, engine_then, ledger_then, replies_then, WithBatches}
 
 -- ---- one run

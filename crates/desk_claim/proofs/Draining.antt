@@ -19,8 +19,8 @@ use Rattle.realseq.specs.Handling.{restarted, stepped, handled, drained}
 use Rattle.realseq.specs.Fronts.{push_message, edit_message}
 use Rattle.desk_claim.specs.Ring.{queued_first, queued_count}
 use Rattle.desk_claim.specs.Related.{message_of, messages_from, messages_length, DeskRelated}
-use Rattle.desk_claim.specs.Messages.{stepped_related}
-use Rattle.desk_claim.specs.LettingGo.{restarted_related}
+use Rattle.desk_claim.proofs.Messages.{stepped_related}
+use Rattle.desk_claim.proofs.LettingGo.{restarted_related}
 
 push-stays : (b : Bool) (e : Event) → is_reset (push_message b e) ≡ false
 push-stays true e = refl

@@ -24,7 +24,8 @@ use Rattle.record_output.specs.declared.Pause.TheVariants.{End, Refused, Full, S
 use Rattle.record_output.specs.Lines.{room_for}
 use Rattle.record_output.specs.Endings.{Ending, refused_line, ending, is_short}
 use Rattle.player.specs.Records.{Ran, stops, behind, left_by, after_call, after_read, ran}
-use Rattle.resuming.specs.Fuel.{silence, again, unrolls}
+use Rattle.resuming.specs.Again.{silence, again}
+use Rattle.resuming.proofs.Unrolls.{unrolls}
 
 -- of a tape of n bytes, what a run from a cursor leaves
 abbrev pub Onward : (n : ℕ) → Cursor → Ran → Type 0

@@ -31,7 +31,7 @@ use Rattle.desk_claim.specs.Ring.{queued_push}
 use Rattle.desk_claim.specs.ReturnQueue.{returns-emptied}
 use Rattle.desk_claim.specs.Related.{message_of, messages_from, messages_length, messages_last, DeskRelated}
 use Rattle.desk_claim.specs.EngineCalls.{gives}
-use Rattle.desk_claim.specs.Refusals.{Keeps, by_refusal, push-agrees, edit-agrees, reset-agrees}
+use Rattle.desk_claim.proofs.Refusals.{Keeps, by_refusal, push-agrees, edit-agrees, reset-agrees}
 
 module _ (d : SequencerBackend) (D : Desk) (w : DeskLawful D) (r : DeskRelated d D) where
   -- the desk with a message queued and k as its next number

@@ -25,7 +25,7 @@ use Rattle.claim.specs.Related.{Related}
 use Rattle.claim.specs.AllToReady.{related_rate}
 use Rattle.claim.specs.RefusalsAgree.{Agrees, tick_refused, block_refused, rate-refused}
 use Rattle.claim.specs.EngineCalls as EngineClaim
-use Rattle.claim.specs.Steps as Claim
+use Rattle.claim.proofs.Steps as Claim
 use Rattle.desk.specs.Desk as Plain
 use Rattle.desk.specs.Desk.{tick, block, rate, reset, back, Reply, done, rendered, Desk, with_back, send_finished, desk_refusal, acts, carried_out, decide, step}
 use Rattle.desk.specs.Lawful.{DeskLawful}
@@ -37,10 +37,10 @@ use Rattle.realseq.specs.Answers.{renders, refuses}
 use Rattle.realseq.specs.Backs.{with_engine, tick_no, ticks, tick_outs, block_no, blocks, block_outs, rates}
 use Rattle.realseq.specs.Answers.{accepts}
 use Rattle.desk_claim.specs.Related.{DeskRelated, plain_of, empty_related}
-use Rattle.desk_claim.specs.LettingGo.{past_related, restarted_related}
-use Rattle.desk_claim.specs.Draining.{drained_related}
+use Rattle.desk_claim.proofs.LettingGo.{past_related, restarted_related}
+use Rattle.desk_claim.proofs.Draining.{drained_related}
 use Rattle.desk_claim.specs.EngineCalls.{gives}
-use Rattle.desk_claim.specs.Refusals.{Keeps, by_refusal}
+use Rattle.desk_claim.proofs.Refusals.{Keeps, by_refusal}
 
 -- ---- the engine, of a call that no refusal names
 

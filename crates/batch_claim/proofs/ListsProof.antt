@@ -10,7 +10,7 @@ use Rattle.apply.specs.RecordCalls.{refusal_of}
 use Rattle.batch.specs.Records.{beyond, stop_of, call_of}
 use Rattle.batch.specs.Run.{Pushed, push_all, written}
 use Rattle.batch_claim.specs.Singles.{Reading, reading, up_to_refused, singles}
-use Rattle.batch_claim.specs.SinglesProof.{as_singles}
+use Rattle.batch_claim.proofs.SinglesProof.{as_singles}
 use Rattle.batch_claim.specs.Lists.{Item, single, batch, ItemReply, replied, answered, answer_of, items, flat, parts, numbers_of, all_numbers, ItemsLend}
 
 -- ---- they leave the same

@@ -19,9 +19,10 @@ use Rattle.desk.proofs.ClaimByRelation.{desk-claim_by_relation, reached}
 use Rattle.realseq.specs.declared.SequencerBackend.{SequencerBackend}
 use Rattle.desk_claim.specs.Related.{shown, messages_shown, DeskRelated, opened_related}
 use Rattle.desk_claim.specs.EngineCalls.{desk_new, desk_call, desk_view, desk_engine}
-use Rattle.desk_claim.specs.Refusals.{Keeps}
-use Rattle.desk_claim.specs.Fronts.{keep-push, keep-edit, keep-reset}
-use Rattle.desk_claim.specs.Backs.{keep_tick, keep-block, keep-rate, keep-restart}
+use Rattle.desk_claim.specs.CarriedOut.{after, Shows, Does}
+use Rattle.desk_claim.proofs.Refusals.{Keeps}
+use Rattle.desk_claim.proofs.Fronts.{keep-push, keep-edit, keep-reset}
+use Rattle.desk_claim.proofs.Backs.{keep_tick, keep-block, keep-rate, keep-restart}
 
 start : (channels : ℕ) (mode : ReplayMode) (first : ℕ) → first < 2 ^ 64
     → ((desk_new channels mode first).1 ≡ (create channels mode first).answer) × DeskRelated (desk_new channels mode first).0 (opened (create channels mode first).ledger)
@@ -37,15 +38,6 @@ keep d D (back (tick order pool out)) w r = keep_tick d D w r order pool out
 keep d D (back (block order n pool out)) w r = keep-block d D w r order n pool out
 keep d D (back (rate x)) w r = keep-rate d D w r x
 keep d D (back reset) w r = keep-restart d D w r
-
--- the back's state; its index; both queues; the next number
-abbrev pub Shows : SequencerBackend → Desk → Type 0
-Shows d D =
-    SameState (desk_view d).back D.back
-    × IndexGivesPlaces (desk_view d).back
-    × ((desk_view d).queued ≡ sent_from D.back.next D.queued)
-    × ((desk_view d).returned ≡ D.returned)
-    × ((desk_view d).back.next ≡ next_number D % 2 ^ 64)
 
 -- the state does not speak of the next number
 same_back : (s : Sequencer) (n : ℕ) (l : Ledger) → SameState (view_of (with_next s n)) l → SameState (view_of s) l
@@ -73,14 +65,6 @@ pub desk-claim : DeskClaim desk_engine
 desk-claim = desk-claim_by_relation desk_engine DeskRelated start keep shows
 
 -- ---- a call that no refusal names is carried out, after any list of calls
-
--- the desk after a creation and a list of calls
-abbrev pub after : (channels : ℕ) → ReplayMode → (first : ℕ) → List Call → SequencerBackend
-after channels mode first cs = (calls desk_engine cs (desk_new channels mode first).0).0
-
--- a call's reply and what it leaves are those of an outcome of the desk ledger
-abbrev pub Does : SequencerBackend → Call → Outcome → Type 0
-Does d c o = ((desk_call d c).1 ≡ o.reply) × Shows (desk_call d c).0 o.desk
 
 pub carried_out_lem : (channels : ℕ) (mode : ReplayMode) (first : ℕ) (cs : List Call) (c : Call) → first < 2 ^ 64
     → (let D = (desk_after channels mode first cs).desk in desk_refusal D c ≡ none → Does (after channels mode first cs) c (carried_out D c))

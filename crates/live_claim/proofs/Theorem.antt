@@ -14,7 +14,7 @@ use Rattle.sequencer.specs.Answers.{answer_of}
 use Rattle.sequencer.specs.Creation.{created}
 use Rattle.claim.specs.View.{view_of}
 use Rattle.claim.specs.EngineCalls.{engine_call, engine}
-use Rattle.claim.specs.Theorem.{claim}
+use Rattle.claim.proofs.Theorem.{claim}
 use Rattle.live_claim.specs.LiveCalls.{Arrays, holds, Live, Meets, replies, live_call, live_engine}
 
 module _ (f : Live) (w : Meets f) where

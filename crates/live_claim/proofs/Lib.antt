@@ -1,0 +1,2 @@
+-- Lemmas, and the theorems that rest on definitions of specs/.
+pub mod Theorem

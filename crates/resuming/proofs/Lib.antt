@@ -1,0 +1,8 @@
+-- Lemmas, and the theorems that rest on definitions of specs/.
+pub mod Samples
+pub mod Fuel
+pub mod Unrolls
+pub mod Resuming
+pub mod Moved
+pub mod Onward
+pub mod Reasons

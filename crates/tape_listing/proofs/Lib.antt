@@ -1,0 +1,4 @@
+-- Lemmas, and the theorems that rest on definitions of specs/.
+pub mod Cases
+pub mod Listed
+pub mod Pieces
