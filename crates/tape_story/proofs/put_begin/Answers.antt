@@ -9,6 +9,6 @@ returns c =
     let e1 = c.put_time-to.ensures in
     let e2 = one _ _ c.put_bytes-to.ensures in
     let e3 = c.put_call-to.ensures in
-    let e4 = c.Put-refused.ensures in
+    let e4 = c.put_refused.ensures in
     let r = further _ _ _ e1 (further _ _ _ e2 (further _ _ _ e3 e4)) in
     r

@@ -5,7 +5,7 @@ use Rattle.tape_tracks.proofs.one_more_if.Goals as goal
 pub returns-then-laid : goal.returns-then-laid
 unfolding one_more
 returns-then-laid c =
-    rw c.if-laid.true c.wrapping_add_u64.ensures
+    rw c.if-laid.true c.wrapping_add_u64.ensures.value
 
 pub returns : goal.returns
 unfolding one_more

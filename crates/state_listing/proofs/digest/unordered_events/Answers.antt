@@ -13,7 +13,7 @@ loop-i-init c = running _ _
 
 pub loop-i-preserved : goal.loop-i-preserved
 loop-i-preserved c =
-    running_on _ _ c.loop-i-test.true (c.wrapping_add_u64-digest.ensures ∙ ap (λ (x : ℕ). (c.loop-i.digest + x) % 2 ^ 64) c.mixed_event.ensures) c.loop-i.invariant
+    running_on _ _ c.loop-i-test.true (c.wrapping_add_u64-digest.ensures.value ∙ ap (λ (x : ℕ). (c.loop-i.digest + x) % 2 ^ 64) c.mixed_event.ensures) c.loop-i.invariant
 
 pub returns : goal.returns
 unfolding unordered_events
