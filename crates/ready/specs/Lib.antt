@@ -1,6 +1,5 @@
 pub mod Sift
 pub mod Waiting
-pub mod Steps
 pub mod Rounds
 pub mod Levels
 pub mod HeapOrder
