@@ -12,7 +12,7 @@ use Rattle.ledger.specs.Steps.{with_lists, stays, leaves, advance}
 use Rattle.ledger.specs.Sums.{number_sum_one, number_sum_numbers, event_sum_one, event_sum_start}
 use Rattle.ledger.specs.Conservation.{event_sum_stays}
 use Rattle.ledger.specs.Lawful.{Lawful}
-use Rattle.ready.specs.Waits.{waits-length}
+use Rattle.ready.proofs.Waits.{waits-length}
 use Rattle.lists.specs.Holds.{holds-length, holds-none}
 use Rattle.sequencer.specs.declared.Sequencer.{Sequencer}
 use Rattle.sequencer.specs.Parts.{with_times}

@@ -17,7 +17,7 @@ use Rattle.ledger.specs.Ledger.{Ledger}
 use Rattle.ledger.specs.Steps.{everything, set_rate}
 use Rattle.ledger.specs.Sums.{event_sum_one, event_sum_insert_all}
 use Rattle.ledger.specs.Lawful.{Lawful}
-use Rattle.ready.specs.Waits.{waits-length}
+use Rattle.ready.proofs.Waits.{waits-length}
 use Rattle.lists.specs.Holds.{holds_at, holds-length, holds-none}
 use Rattle.sequencer.specs.declared.Sequencer.{Sequencer}
 use Rattle.sequencer.specs.Moves.{pushed_ready, held_at, to_ready, all_to_ready}

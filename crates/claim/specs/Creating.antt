@@ -7,7 +7,7 @@ use Rattle.event.specs.declared.ReplayMode.TheVariants.{All}
 use Rattle.ledger.specs.Calls.{done, refused}
 use Rattle.ledger.specs.Ledger.{Created, fresh, create}
 use Rattle.ready.specs.Waiting as Waiting
-use Rattle.ready.specs.Waits.{waits_new}
+use Rattle.ready.proofs.Waits.{waits_new}
 use Rattle.lists.specs.EditList.{edits_new}
 use Rattle.lists.specs.Holds.{holds-none}
 use Rattle.sequencer.specs.declared.Outcome.{Outcome}

@@ -10,7 +10,7 @@ use Rattle.ledger.specs.Calls.{number}
 use Rattle.ledger.specs.Lists.{insert}
 use Rattle.ledger.specs.Ledger.{Ledger, held}
 use Rattle.ledger.specs.Steps.{enter}
-use Rattle.ready.specs.Waits.{waits-length}
+use Rattle.ready.proofs.Waits.{waits-length}
 use Rattle.lists.specs.Holds.{holds-length}
 use Rattle.sequencer.specs.declared.Sequencer.{Sequencer}
 use Rattle.sequencer.specs.Parts.{with_active, with_next}

@@ -5,7 +5,7 @@ use Rattle.ledger.specs.Lists.{place_of}
 use Rattle.ledger.specs.Ledger.{Ledger}
 use Rattle.ledger.specs.Lawful.{Lawful}
 use Rattle.ledger.specs.Claim.{SameState, IndexGivesPlaces}
-use Rattle.ready.specs.Waits.{waits-length}
+use Rattle.ready.proofs.Waits.{waits-length}
 use Rattle.lists.specs.Holds.{holds-length}
 use Rattle.lists.specs.Sounding.{index_find}
 use Rattle.sequencer.specs.declared.Sequencer.{Sequencer}

@@ -18,7 +18,7 @@ use Rattle.event.specs.Blank.{blank}
 use Rattle.ledger.specs.Ledger.{Ledger}
 use Rattle.ledger.specs.Lists.{start, Started, with_edit, edit_of, drop_edit}
 use Rattle.ledger.specs.Sorted.{Sorted}
-use Rattle.ready.specs.Waits.{waits-length}
+use Rattle.ready.proofs.Waits.{waits-length}
 use Rattle.lists.specs.declared.EditMap.{EditMap}
 use Rattle.lists.specs.declared.Found.{Found}
 use Rattle.lists.specs.declared.Found.TheVariants.{At, Nothing}

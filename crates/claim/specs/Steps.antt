@@ -11,7 +11,7 @@ use Rattle.event.specs.declared.Fade.{Fade}
 use Rattle.event.specs.declared.MixOrder.{MixOrder}
 use Rattle.event.specs.declared.Source.{Source}
 use Rattle.floats.specs.Arithmetic.{◌+ᵈ◌, ◌-ᵈ◌, ◌×ᵈ◌, ◌<ᶠ◌, zeroᶠ, whole}
-use Rattle.ready.specs.Waits.{waits-length}
+use Rattle.ready.proofs.Waits.{waits-length}
 use Rattle.lists.specs.Holds.{holds-length}
 use Rattle.lists.specs.EditList.{edits_find}
 use Rattle.lists.specs.Sounding.{index_find}

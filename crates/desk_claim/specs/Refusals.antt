@@ -9,7 +9,7 @@ use Rattle.std.specs.Float.Ieee.Scale.{finite}
 use Rattle.event.specs.declared.Fade.{Fade}
 use Rattle.event.specs.declared.Source.{Source}
 use Rattle.floats.specs.Arithmetic.{◌-ᵈ◌, ◌<ᶠ◌}
-use Rattle.ready.specs.Waits.{waits-length}
+use Rattle.ready.proofs.Waits.{waits-length}
 use Rattle.lists.specs.Holds.{holds-length}
 use Rattle.ledger.specs.Calls.{PushKind, EditKind}
 use Rattle.ledger.specs.Ledger.{held}

@@ -9,7 +9,7 @@ use Rattle.ready.specs.Sift.{parent}
 use Rattle.ready.specs.Sift as Sift
 use Rattle.ready.specs.Levels.{levels, Counting, counting_on, counted_root, counted_stop}
 use Rattle.ready.specs.Waiting.{pushed, popped}
-use Rattle.ready.specs.Rounds.{risen_root, risen_stop, sunk}
+use Rattle.ready.proofs.Rounds.{risen_root, risen_stop, sunk}
 use Rattle.sequencer.specs.declared.Sequencer.{Sequencer}
 use Rattle.sequencer.specs.Parts.{with_ready}
 use Rattle.sequencer.specs.Moves.{pushed_active, pushed_ready, popped_ready, pushed_event}

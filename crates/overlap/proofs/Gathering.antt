@@ -16,7 +16,8 @@ use Rattle.memory.specs.Memory.{Cells, event_at, slot_of, engine_of}
 use Rattle.memory.specs.Laws.{counts_are, waits-read, sounds-read, finished_read}
 use Rattle.ready.specs.Sift.{rise}
 use Rattle.ready.specs.HeapOrder.{Heap-ordered}
-use Rattle.ready.specs.Stands.{Stands, stands-push}
+use Rattle.ready.specs.Stands.{Stands}
+use Rattle.ready.proofs.Stands.{stands-push}
 use Rattle.overlap.specs.Stretch.{those}
 use Rattle.overlap.specs.Reading.{held_in}
 use Rattle.overlap.specs.Keys.{Key, key_of, key_less, key_order, no_key}

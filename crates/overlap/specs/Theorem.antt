@@ -10,7 +10,7 @@ use Rattle.std.specs.Float.Ieee.{is_nan}
 use Rattle.event.specs.declared.Event.{Event}
 use Rattle.event.specs.declared.ReplayMode.{ReplayMode}
 use Rattle.event.specs.Events.{earlier}
-use Rattle.ready.specs.HeapOrder.{perm_eq}
+use Rattle.ready.proofs.HeapOrder.{perm_eq}
 use Rattle.ledger.specs.Calls.{Call}
 use Rattle.ledger.specs.Ledger.{Ledger, create}
 use Rattle.ledger.specs.Lists.{numbers}

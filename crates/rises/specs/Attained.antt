@@ -16,7 +16,7 @@ use Rattle.ledger.specs.Refusals.{within, within_end, stated_end}
 use Rattle.ledger.specs.Steps.{pushed_time}
 use Rattle.ready.specs.Sift.{rise}
 use Rattle.ready.specs.Levels.{levels}
-use Rattle.ready.specs.HeapOrder.{rise_moves, moves-length}
+use Rattle.ready.proofs.HeapOrder.{rise_moves, moves-length}
 use Rattle.ready.specs.Waiting.{pushed, emptied}
 use Rattle.refusals.specs.Refusals.{push_refusal}
 use Rattle.sequencer.specs.declared.Sequencer.{Sequencer}
