@@ -6,7 +6,7 @@ use Prim.Native.Nat.{ℕ, ◌+◌, ◌*◌, ◌≤◌, ◌<◌}
 use lib.Ieee.{Float, nan}
 use lib.ListN.{length, get_or, set}
 use Rattle.ready.specs.Sift.{child, parent}
-use Rattle.ready.specs.Steps.{child_left, child_first, child_second}
+use Rattle.ready.proofs.Steps.{child_left, child_first, child_second}
 use Rattle.overlap.specs.Keys.{Key, key_less, no_key, pairs, get_or-pairs, set-pairs}
 use Rattle.ready.proofs.Rounds.{Rising, rising_on, risen_root, risen_stop, Sinking, sinking_on}
 

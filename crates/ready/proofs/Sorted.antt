@@ -1,7 +1,7 @@
 -- W, the ledger's sorted list of waiting events: what its `insert` keeps. Assumes nothing.
 use Rattle.std.specs.Prelude.{Bool, true, false, cond, ◌≡◌, refl, ◌≢◌, ℕ}
 use Rattle.std.proofs.Math.Bool.{Bool-set}
-use Rattle.std.proofs.Common.{sym, ap, ◌∙◌, ⊎_elim}
+use Rattle.std.proofs.Common.{ap, ◌∙◌, ⊎_elim}
 use Rattle.std.proofs.Math.Logic.{∥∥₁_elim}
 use mathlib.Core.List.Memᴰ
 use mathlib.Core.List.Perm

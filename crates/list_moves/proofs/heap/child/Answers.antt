@@ -2,7 +2,7 @@
 use Rattle.std.proofs.Common.{◌≡◌, ◌+◌, ◌*◌, sym, ◌∙◌, ap₂, arith, rules}
 use Rattle.event.specs.Events.{earlier}
 use Rattle.event.specs.Blank.{blank}
-use Rattle.ready.specs.Steps.{child_left, child_first, child_second}
+use Rattle.ready.proofs.Steps.{child_left, child_first, child_second}
 use Rattle.memory.specs.Memory.{cells_of}
 use Rattle.memory.specs.Laws.{waits-read}
 use Rattle.list_moves.proofs.heap.child.Goals as goal

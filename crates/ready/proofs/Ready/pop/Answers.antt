@@ -1,16 +1,15 @@
 use borrow.Author.Rules.{rules}
-use borrow.Author.Tests.{lt-ltb, le-leb, lt-leb, not-true, not-false}
+use borrow.Author.Tests.{lt-ltb, le-leb, lt-leb}
 use native.Mathlib.Omega.{arith}
-use Prim.Native.Nat.{◌≤◌, ◌<◌, ◌-◌}
+use Prim.Native.Nat.{◌<◌, ◌-◌}
 use mathlib.Core.Bool.{and-false}
 use mathlib.Core.Path.{◌≡◌, refl, sym, ap, ◌∙◌}
-use mathlib.Core.Logic.{⊎_elim}
 use mathlib.Core.List.{List}
 use Rattle.event.specs.declared.Event.{Event}
 use Rattle.event.specs.Events.{earlier}
 use Rattle.event.specs.Blank.{blank}
-use Rattle.ready.specs.Sift.{rise, sink, child}
-use Rattle.ready.specs.Steps.{child_left, child_first, child_second}
+use Rattle.ready.specs.Sift.{child}
+use Rattle.ready.proofs.Steps.{child_left, child_first, child_second}
 use Rattle.ready.specs.Waiting.{popped}
 use Rattle.ready.proofs.Rounds.{Sinking, sinking_on, sunk, Rising, rising_on, risen_root, risen_stop}
 use Rattle.ready.proofs.Ready.pop.Goals as goal

@@ -1,14 +1,12 @@
 use borrow.Author.Rules.{rules}
-use borrow.Author.Tests.{lt-ltb, le-ltb, not-true, not-false}
+use borrow.Author.Tests.{lt-ltb, le-ltb}
 use native.Mathlib.Omega.{arith}
-use Prim.Native.Nat.{◌+◌, ◌≤◌}
+use Prim.Native.Nat.{◌+◌}
 use mathlib.Core.Path.{refl, sym, ap, ◌∙◌}
-use mathlib.Core.Logic.{⊎_elim}
 use mathlib.Core.List.{List}
 use Rattle.event.specs.declared.Event.{Event}
 use Rattle.event.specs.Events.{earlier}
 use Rattle.event.specs.Blank.{blank}
-use Rattle.ready.specs.Sift.{rise}
 use Rattle.ready.specs.Waiting.{pushed}
 use Rattle.ready.proofs.Rounds.{Rising, rising_on, risen_root, risen_stop}
 use Rattle.ready.proofs.Ready.push.Goals as goal

@@ -1,11 +1,4 @@
-use borrow.Author.Rules.{rules}
-use borrow.Author.Tests.{lt-ltb, le-ltb, not-true, not-false}
-use native.Mathlib.Omega.{arith}
-use Prim.Native.Nat.{◌+◌, ◌≤◌}
-use mathlib.Core.Path.{refl, sym, ap, ◌∙◌}
-use mathlib.Core.Logic.{⊎_elim}
-use mathlib.Core.List.{List}
-use Rattle.event.specs.declared.Event.{Event}
+use Prim.Native.Nat.{◌≤◌}
 use Rattle.event.specs.Events.{earlier}
 use Rattle.event.specs.Blank.{blank}
 use Rattle.ready.specs.Sift.{rise}

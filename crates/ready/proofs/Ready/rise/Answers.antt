@@ -1,12 +1,10 @@
 -- `ready::Ready::rise` meets its contract.
-use borrow.Author.Rules.{rules}
-use borrow.Author.Tests.{lt-ltb, le-ltb, not-true, not-false}
+use borrow.Author.Tests.{lt-ltb, le-ltb}
 use native.Mathlib.Omega.{arith}
-use Prim.Native.Nat.{◌+◌, ◌≤◌}
 use mathlib.Core.Path.{sym, ◌∙◌}
 use Rattle.event.specs.Events.{earlier}
 use Rattle.event.specs.Blank.{blank}
-use Rattle.ready.specs.Levels.{levels, Climbing, climbing_on, climbed_root, climbed_stop}
+use Rattle.ready.specs.Levels.{climbing_on, climbed_root, climbed_stop}
 use Rattle.ready.proofs.Ready.rise.Goals as goal
 
 pub returns-then-n-ge256 : goal.returns-then-n-ge256

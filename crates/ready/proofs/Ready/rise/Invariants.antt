@@ -1,12 +1,8 @@
 -- `ready::Ready::rise` meets its contract.
-use borrow.Author.Rules.{rules}
-use borrow.Author.Tests.{lt-ltb, le-ltb, not-true, not-false}
-use native.Mathlib.Omega.{arith}
 use Prim.Native.Nat.{◌+◌, ◌≤◌}
-use mathlib.Core.Path.{sym, ◌∙◌}
 use Rattle.event.specs.Events.{earlier}
 use Rattle.event.specs.Blank.{blank}
-use Rattle.ready.specs.Levels.{levels, Climbing, climbing_on, climbed_root, climbed_stop}
+use Rattle.ready.specs.Levels.{levels, Climbing}
 use Rattle.ready.proofs.Ready.rise.Given as goal
 
 -- what is counted, and what is left from place i on, is the whole way
