@@ -9,7 +9,7 @@ pub record Copied (samples before now : List Float) (i : ℕ) : Type 0 where
   pub rest : drop i now ≡ drop i before
 
 abbrev pub invariant-loop-i : goal.invariant-loop-i
-invariant-loop-i l = Copied l.samples.now l.initial.pool l.pool l.i
+invariant-loop-i l = Copied l.samples l.initial.pool l.pool l.i
 
 abbrev pub decreases-loop-i : goal.decreases-loop-i
-decreases-loop-i l = length l.samples.now - l.i
+decreases-loop-i l = length l.samples - l.i
