@@ -7,7 +7,8 @@ use Rattle.event.specs.Blank.{blank}
 use Rattle.ledger.specs.Ledger.{Ledger}
 use Rattle.ledger.specs.Lists.{insert}
 use Rattle.ledger.proofs.Sorted.{Sorted}
-use Rattle.ready.proofs.Waits.{Waits, waits-push, waits_pop}
+use Rattle.ready.proofs.Waits.{waits-push, waits_pop}
+use Rattle.ready.specs.Waits.{Waits}
 use Rattle.lists.specs.EditList.{Edits}
 use Rattle.lists.specs.Holds.{Holds, holds_to, holds-append}
 use Rattle.lists.specs.Sounding.{id_of, listed-append}

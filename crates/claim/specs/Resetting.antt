@@ -11,7 +11,8 @@ use Rattle.ledger.specs.Ledger.{Ledger}
 use Rattle.ledger.specs.Steps.{everything, restart}
 use Rattle.ledger.proofs.Lawful.{Lawful}
 use Rattle.ready.specs.declared.Ready.{Ready}
-use Rattle.ready.proofs.Waits.{Waits, waits-none, waits-map, waits-length}
+use Rattle.ready.proofs.Waits.{waits-none, waits-map, waits-length}
+use Rattle.ready.specs.Waits.{Waits}
 use Rattle.lists.specs.Holds.{holds-length, holds-none}
 use Rattle.sequencer.specs.declared.Sequencer.{Sequencer}
 use Rattle.sequencer.specs.Moves.{heap_of, all_to_ready}

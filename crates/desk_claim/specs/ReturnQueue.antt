@@ -9,7 +9,8 @@ use Rattle.event.specs.Blank.{blank}
 use Rattle.ledger.specs.Lists.{numbers}
 use Rattle.ledger.proofs.Sorted.{Sorted}
 use Rattle.ready.specs.declared.Ready.{Ready}
-use Rattle.ready.proofs.Waits.{Waits, waits_pop, waits-length}
+use Rattle.ready.proofs.Waits.{waits_pop, waits-length}
+use Rattle.ready.specs.Waits.{Waits}
 use Rattle.ready.specs.Waiting as Waiting
 use Rattle.lists.specs.Holds.{Holds}
 use Rattle.realseq.specs.declared.queues.Returned.{Returned}

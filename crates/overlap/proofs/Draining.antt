@@ -11,7 +11,8 @@ use native.Mathlib.Numerals.{add-one}
 use lib.ListN.{length, get_or, set, take, drop, length-set, take-append-drop}
 use lib.Seq.{take-suc-set, drop-set-lt, drop-drop}
 use Rattle.ready.specs.Sift.{sink}
-use Rattle.ready.proofs.HeapOrder.{Heap-ordered, root_least, pop_ordered, moves-length, sink_moves}
+use Rattle.ready.proofs.HeapOrder.{root_least, pop_ordered, moves-length, sink_moves}
+use Rattle.ready.specs.HeapOrder.{Heap-ordered}
 use Rattle.ready.proofs.Stands.{pop_perm}
 use Rattle.overlap.specs.Insertion.{inserts_by, least_first}
 use Rattle.overlap.specs.Keys.{Key, number_of_key, key_less, key_order, no_key, keys_in_order, keys_perm}

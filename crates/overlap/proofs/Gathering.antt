@@ -15,8 +15,9 @@ use Rattle.memory.specs.Rows.{rows}
 use Rattle.memory.specs.Memory.{Cells, event_at, slot_of, engine_of}
 use Rattle.memory.specs.Laws.{counts_are, waits-read, sounds-read, finished_read}
 use Rattle.ready.specs.Sift.{rise}
-use Rattle.ready.proofs.HeapOrder.{Heap-ordered}
-use Rattle.ready.proofs.Stands.{Stands, stands-push}
+use Rattle.ready.specs.HeapOrder.{Heap-ordered}
+use Rattle.ready.proofs.Stands.{stands-push}
+use Rattle.ready.specs.Stands.{Stands}
 use Rattle.overlap.specs.Stretch.{those}
 use Rattle.overlap.specs.Reading.{held_in}
 use Rattle.overlap.specs.Keys.{Key, key_of, key_less, key_order, no_key}

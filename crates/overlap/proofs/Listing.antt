@@ -12,7 +12,8 @@ use lib.Seq.{take_all}
 use Rattle.floats.specs.Arithmetic.{◌<ᶠ◌}
 use Rattle.event.specs.declared.Event.{Event}
 use Rattle.ledger.specs.Lists.{insert_all, numbers}
-use Rattle.ready.proofs.Stands.{Stands, stands-length}
+use Rattle.ready.proofs.Stands.{stands-length}
+use Rattle.ready.specs.Stands.{Stands}
 use Rattle.overlap.specs.declared.Found.{Found}
 use Rattle.overlap.specs.declared.Found.TheVariants as found
 use Rattle.overlap.specs.Stretch.{those, in_stretch, clips_of, written, clips_answer, clips_listed}

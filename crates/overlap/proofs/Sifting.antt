@@ -8,7 +8,8 @@ use lib.ListN.{length, get_or, set}
 use Rattle.ready.specs.Sift.{child, parent}
 use Rattle.ready.proofs.Steps.{child_left, child_first, child_second}
 use Rattle.overlap.specs.Keys.{Key, key_less, no_key, pairs, get_or-pairs, set-pairs}
-use Rattle.ready.proofs.Rounds.{Rising, rising_on, risen_root, risen_stop, Sinking, sinking_on}
+use Rattle.ready.proofs.Rounds.{rising_on, risen_root, risen_stop, sinking_on}
+use Rattle.ready.specs.Rounds.{Rising, Sinking}
 
 module _ (ss : List Float) (ns : List ℕ) (same : length ss ≡ length ns) where
   -- the key at place i, as the code reads it

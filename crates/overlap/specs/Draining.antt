@@ -1,6 +1,6 @@
 -- A heap of keys that is emptied in order: what `drain_sorted` asks and gives.
 use Rattle.std.specs.Prelude.{ℕ, ◌≤◌, ◌≡◌, List, ◌++◌, Float, length, take, drop}
-use Rattle.ready.proofs.HeapOrder.{Heap-ordered}
+use Rattle.ready.specs.HeapOrder.{Heap-ordered}
 use Rattle.overlap.specs.Keys.{key_less, no_key, pairs, keys_in_order}
 
 pub record Drainable (count n : ℕ) (starts : List Float) (ns out : List ℕ) : Type 0 where

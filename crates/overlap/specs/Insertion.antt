@@ -12,7 +12,7 @@ use mathlib.Core.HLevel.{hedberg}
 use mathlib.Core.List.Permᴰ
 use mathlib.Core.List.{List, [], ◌∷◌, map, is_set, Memᴰ, Perm, Permᴰ}
 use Rattle.std.proofs.Math.Decide.{ℕ_discrete}
-use Rattle.ready.proofs.HeapOrder.{Order}
+use Rattle.ready.specs.HeapOrder.{Order}
 use Rattle.overlap.specs.Stretch.{those}
 
 -- ---- those that pass, of a permutation

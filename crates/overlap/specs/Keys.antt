@@ -9,8 +9,8 @@ use Rattle.floats.specs.Floats.{sooner}
 use Rattle.event.specs.declared.Event.{Event}
 use Rattle.event.specs.Events.{number_of, earlier}
 use Rattle.ledger.specs.Lists.{insert, insert_all, numbers}
-use Rattle.ready.proofs.HeapOrder.{Order}
-use Rattle.ready.proofs.Sorted.{earlier_order}
+use Rattle.ready.specs.HeapOrder.{Order}
+use Rattle.ready.specs.Sorted.{earlier_order}
 use Rattle.ledger.proofs.Sorted.{Sorted}
 use Rattle.overlap.specs.Insertion.{insert_by, inserts_by, length_inserts_by, Ordered, ordered-stays, numbers_perm}
 

@@ -6,7 +6,7 @@ ghost use Rattle.std.specs.Prelude.{◌≡◌, map, ◌+◌, ◌*◌, ◌<◌, m
 ghost use Rattle.floats.specs.Floats.{sooner};
 ghost use Rattle.event.specs.Blank.{blank};
 ghost use Rattle.event.specs.Events.{number_of};
-ghost use Rattle.ready.proofs.Stands.{Stands};
+ghost use Rattle.ready.specs.Stands.{Stands};
 ghost use Rattle.overlap.specs.Stretch.{those, in_stretch, clips_of, written, clips_answer, clips_listed};
 ghost use Rattle.ledger.specs.Lists.{numbers as numbers_of};
 ghost use Rattle.memory.specs.Memory.{before, engine_of};

@@ -1,6 +1,5 @@
--- Lemmas, and the theorems that rest on definitions of specs/.
-pub mod HeapOrder
+pub mod Steps
 pub mod Rounds
-pub mod Sorted
+pub mod HeapOrder
 pub mod Stands
 pub mod Waits

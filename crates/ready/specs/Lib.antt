@@ -1,6 +1,10 @@
 pub mod Sift
 pub mod Waiting
-pub mod Steps
+pub mod Rounds
 pub mod Levels
+pub mod HeapOrder
+pub mod Sorted
+pub mod Stands
 pub mod EventSet
+pub mod Waits
 pub mod Cases

@@ -12,8 +12,8 @@ use Rattle.event.specs.declared.ReplayMode.{ReplayMode}
 use Rattle.event.specs.declared.Source.{Source}
 use Rattle.event.specs.Events.{earlier}
 use Rattle.event.specs.Blank.{blank}
-use Rattle.ready.proofs.Sorted.{earlier_order}
-use Rattle.ready.proofs.HeapOrder.{Heap-ordered}
+use Rattle.ready.specs.Sorted.{earlier_order}
+use Rattle.ready.specs.HeapOrder.{Heap-ordered}
 use Rattle.refusals.specs.Refusals.{push_refusal}
 use Rattle.ledger.specs.Calls.{Call}
 use Rattle.ledger.specs.Ledger.{create}

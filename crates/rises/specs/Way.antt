@@ -7,7 +7,7 @@ use Rattle.std.proofs.Math.Decide.{ℕ_discrete, dec_lt}
 use Rattle.std.proofs.Math.ListN.{length-set}
 use Rattle.ready.specs.Sift.{parent, rise}
 use Rattle.ready.proofs.Steps.{rise_root, rise_stop, rise_turn}
-use Rattle.ready.proofs.HeapOrder.{Order, Heap-ordered}
+use Rattle.ready.specs.HeapOrder.{Order, Heap-ordered}
 use Rattle.ready.specs.Levels.{levels, levels_root, levels_stop, levels-turn}
 
 -- ---- floor(log2 k): how often k can be halved, down to 1

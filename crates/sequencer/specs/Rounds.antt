@@ -7,7 +7,8 @@ use Rattle.event.specs.declared.Event.{Event}
 use Rattle.event.specs.Events.{earlier}
 use Rattle.event.specs.Blank.{blank}
 use Rattle.ready.specs.Sift.{rise, sink, child, parent}
-use Rattle.ready.proofs.Rounds.{Rising, rising_on, risen_root, risen_stop, Sinking, sinking_on, sunk}
+use Rattle.ready.proofs.Rounds.{rising_on, risen_root, risen_stop, sinking_on, sunk}
+use Rattle.ready.specs.Rounds.{Rising, Sinking}
 use Rattle.ready.specs.Waiting.{pushed, popped}
 use Rattle.sequencer.specs.declared.Sequencer.{Sequencer}
 use Rattle.sequencer.specs.Parts.{with_ready}

@@ -6,7 +6,8 @@ use native.Mathlib.Omega.{arith}
 use lib.ListN.{length, length-set}
 use Rattle.ready.specs.Sift.{sink}
 use Rattle.overlap.specs.Keys.{Key, key_less, no_key, pairs, get_or-pairs}
-use Rattle.ready.proofs.Rounds.{Sinking, sunk}
+use Rattle.ready.proofs.Rounds.{sunk}
+use Rattle.ready.specs.Rounds.{Sinking}
 use Rattle.overlap.proofs.Sifting.{down_on}
 use Rattle.overlap.proofs.sift_down.Goals as goal
 

@@ -8,7 +8,7 @@ use lib.ListN.{length, length-set}
 use borrow.Author.Tests.{not-true, not-false}
 use Rattle.ready.specs.Sift.{rise}
 use Rattle.overlap.specs.Keys.{key_less, no_key, pairs}
-use Rattle.ready.proofs.Rounds.{Rising}
+use Rattle.ready.specs.Rounds.{Rising}
 use Rattle.overlap.proofs.Sifting.{up_on, up_root, up_stop}
 use Rattle.overlap.proofs.sift_up.Given as goal
 

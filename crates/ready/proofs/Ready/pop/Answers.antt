@@ -11,7 +11,7 @@ use Rattle.event.specs.Blank.{blank}
 use Rattle.ready.specs.Sift.{child}
 use Rattle.ready.proofs.Steps.{child_left, child_first, child_second}
 use Rattle.ready.specs.Waiting.{popped}
-use Rattle.ready.proofs.Rounds.{Sinking, sinking_on, sunk, Rising, rising_on, risen_root, risen_stop}
+use Rattle.ready.proofs.Rounds.{sinking_on, sunk, rising_on, risen_root, risen_stop}
 use Rattle.ready.proofs.Ready.pop.Goals as goal
 use Rattle.ready.proofs.Ready.pop.Goals.{Joined-r-m, then-r-m+then-precedes, then-r-m+else-precedes, else-r-m, else-loop-i-2-test, then-loop-i-2-test+then-not-precedes}
 

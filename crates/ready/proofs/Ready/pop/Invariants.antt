@@ -1,10 +1,8 @@
 use Prim.Native.Nat.{◌≤◌, ◌<◌, ◌-◌}
 use Rattle.event.specs.Events.{earlier}
 use Rattle.event.specs.Blank.{blank}
-use Rattle.ready.specs.Sift.{rise, sink, child}
-use Rattle.ready.proofs.Steps.{child_left, child_first, child_second}
-use Rattle.ready.specs.Waiting.{popped}
-use Rattle.ready.proofs.Rounds.{Sinking, sinking_on, sunk, Rising, rising_on, risen_root, risen_stop}
+use Rattle.ready.specs.Sift.{rise, sink}
+use Rattle.ready.specs.Rounds.{Sinking, Rising}
 use Rattle.ready.proofs.Ready.pop.Given as goal
 
 -- the free place goes down: from place i on the definition gives its result

@@ -8,7 +8,7 @@ use Rattle.event.specs.declared.Event.{Event}
 use Rattle.event.specs.Events.{earlier}
 use Rattle.event.specs.Blank.{blank}
 use Rattle.ready.specs.Waiting.{pushed}
-use Rattle.ready.proofs.Rounds.{Rising, rising_on, risen_root, risen_stop}
+use Rattle.ready.proofs.Rounds.{rising_on, risen_root, risen_stop}
 use Rattle.ready.proofs.Ready.push.Goals as goal
 use Rattle.ready.proofs.Ready.push.Goals.{else-loop-i-test, then-loop-i-test+then-not-precedes}
 

@@ -2,8 +2,7 @@ use Prim.Native.Nat.{◌≤◌}
 use Rattle.event.specs.Events.{earlier}
 use Rattle.event.specs.Blank.{blank}
 use Rattle.ready.specs.Sift.{rise}
-use Rattle.ready.specs.Waiting.{pushed}
-use Rattle.ready.proofs.Rounds.{Rising, rising_on, risen_root, risen_stop}
+use Rattle.ready.specs.Rounds.{Rising}
 use Rattle.ready.proofs.Ready.push.Given as goal
 
 -- from place i on the event rises to what the definition gives

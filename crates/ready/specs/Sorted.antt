@@ -12,7 +12,7 @@ use Rattle.event.specs.Events.{earlier, number_of}
 use Rattle.event.proofs.StartsFirst.{start_bits, Starts, numbered, numbers-late}
 use Rattle.ledger.specs.Lists.{insert}
 use Rattle.ledger.proofs.Sorted.{Sorted}
-use Rattle.ready.proofs.HeapOrder.{Order}
+use Rattle.ready.specs.HeapOrder.{Order}
 
 -- ---- the order of two events
 
