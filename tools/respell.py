@@ -18,7 +18,7 @@ ROOT = os.path.dirname(os.path.dirname(os.path.abspath(__file__)))
 KEPT = {"viewBox", "getD", "roundTiesToEven", "totalOrder", "n3A800000", "n3F800000"}
 GENERATED = re.compile(r"^(invariant|decreases|loop|if|in|in_ok|in_err|returns|overflow|overflow_add|overflow_sub|overflow_mul|overflow_cast|bounds|slice_bounds|nonzero|nonzero_div|nonzero_rem|"
                        r"offset_bounds|prove|invariant_of|the|then|else|cast|float_to_int|enum|match|case|Need)-|-(requires|requires-\d+|init|preserved|smaller|spec|reads|kinds|index|iterator|item)$|-\d+$")
-WORD = re.compile(r"[A-Za-z_\u00c0-\u024f\u0370-\u03ff\u2080-\u209c\u1d00-\u1dbf\u2100-\u214f][A-Za-z0-9_'\u00c0-\u024f\u0370-\u03ff\u2080-\u209c\u1d00-\u1dbf\u2100-\u214f-]*")
+WORD = re.compile(r"(?<![0-9])[A-Za-z_\u00c0-\u024f\u0370-\u03ff\u2080-\u209c\u1d00-\u1dbf\u2100-\u214f][A-Za-z0-9_'\u00c0-\u024f\u0370-\u03ff\u2080-\u209c\u1d00-\u1dbf\u2100-\u214f-]*")
 CAMEL = re.compile(r"^[a-z][A-Za-z0-9_'\u2080-\u209c\u1d00-\u1dbf-]*$")
 STD = {"length", "take", "drop", "map", "reverse", "replicate", "append", "set", "get", "get_or", "sum", "all", "any", "filter", "min", "max", "round", "add", "sub", "mul", "div", "to_bits", "from_bits", "lt", "le", "eq", "add_comm",
        "up", "down", "fits", "not", "cond", "is_nan", "nan_bits"}
@@ -124,7 +124,7 @@ def rust(text):
     """A source file: words with a capital inside, outside strings (Rust's own words begin with a capital or have none)."""
     out = []
     for piece in re.split(r'(b?"(?:[^"\\]|\\.)*")', text):
-        out.append(piece if re.match(r'b?"', piece) else re.sub(r"[a-z][A-Za-z0-9_']*", lambda w: small(w.group()) if w.group() in CAMELS else w.group(), re.sub(r"(?<![A-Za-z0-9_])(?=[a-z])", "", piece)))
+        out.append(piece if re.match(r'b?"', piece) else re.sub(r"(?<![0-9])[a-z][A-Za-z0-9_']*", lambda w: small(w.group()) if w.group() in CAMELS else w.group(), re.sub(r"(?<![A-Za-z0-9_])(?=[a-z])", "", piece)))
     return "".join(out)
 
 

@@ -59,7 +59,7 @@ ramp =
 
 abbrev push_of_ramp : PushKind → (gain : Float) → Call
 push_of_ramp kind gain =
-    push kind (of_bits binary64 0x3ff0000000000000) (of_bits binary64 0x4010000000000000) (of_bits binary64 0x3fe0000000000000) (of_bits binary64 0x3fd0000000000000)
+    push kind (of_bits binary64 0x3ff0000000000000) (of_bits binary64 0x4010000000000000) (of_bits binary64 0x3FE0000000000000) (of_bits binary64 0x3FD0000000000000)
     Power (Ramp (of_bits binary32 0x3f800000) (of_bits binary32 0x3f000000)) gain
 
 -- "01 push, 02 relative, 03 by duration", and "the same pushes with four gain bytes"

@@ -31,7 +31,7 @@ slice = replicate 32 9
 
 -- the clip with gain bytes, 1.0
 abbrev loud : List ℕ
-loud = 0x0_a ∷ (drop 1 clip ++ (0 ∷ 0 ∷ 0x80 ∷ 0x3_f ∷ []))
+loud = 0x0A ∷ (drop 1 clip ++ (0 ∷ 0 ∷ 0x80 ∷ 0x3F ∷ []))
 
 -- ---- "reads no further"
 

@@ -11,13 +11,13 @@ abbrev pub riff : ℕ
 riff = 0x4646_4952
 
 abbrev pub format : ℕ
-format = 0x2074_6d66
+format = 0x2074_6D66
 
 abbrev pub data' : ℕ
 data' = 0x6174_6164
 
 abbrev pub option : ℕ
-option = 0x6c6f_6f70_2d2d
+option = 0x6C6F_6F70_2D2D
 
 pub names : (field (ascii "RIFF") 0 4 ≡ riff) × (field (ascii "fmt ") 0 4 ≡ format) × (field (ascii "data") 0 4 ≡ data') × (field (ascii "--pool") 0 6 ≡ option)
 unfolding field from_little_endian

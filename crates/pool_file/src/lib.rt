@@ -63,7 +63,7 @@ fn known_by(head: &[u8], at: usize, known: bool) -> bool
     requires { at ≤ 65_536 }
     ensures { result ≡ known_by head.now at known }
 {
-    if fields::word32(head, at) == 0x2074_6d66 {
+    if fields::word32(head, at) == 0x2074_6D66 {
         return is_mono_float(head, at + 8);
     }
     known
@@ -113,7 +113,7 @@ pub fn is_option(argument: &[u8]) -> bool
     if argument.len() != 6 {
         return false;
     }
-    fields::word(argument, 0, 6) == 0x6c6f_6f70_2d2d
+    fields::word(argument, 0, 6) == 0x6C6F_6F70_2D2D
 }
 
 // The option's line of a usage.
