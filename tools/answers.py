@@ -281,6 +281,9 @@ def turn(folder, crate, names, says):
         step, vars_, changed = hit
         params = [*[("l.initial." if c else "l.") + v for v, c in zip(vars_, changed)], *["l." + v for v, c in zip(vars_, changed) if c]]
         above, ps, b = eq
+        if len(ps) != len(params) and all(not re.search(r"(?<![\w.'])" + re.escape(q) + r"(?![\w'])", b) or q.rstrip("\u2080") in vars_ for q in ps):
+            # The loop has other variables now: by their names.
+            params = [("l.initial." if q.endswith("\u2080") else "l.") + q.rstrip("\u2080") for q in ps]
         if len(ps) != len(params):
             says(f"left: {path}: {kind}-{loop} takes {len(ps)} values, {params}")
             continue
