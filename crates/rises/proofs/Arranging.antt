@@ -8,7 +8,7 @@ use Rattle.sequencer.specs.declared.Outcome.{Outcome}
 use Rattle.sequencer.specs.declared.Pushed.{Pushed}
 use Rattle.sequencer.specs.Creation.{created}
 use Rattle.rises.specs.Totals.{Push, pushed_by, total_rise}
-use Rattle.rises.specs.Single.{rise_few}
+use Rattle.rises.proofs.Single.{rise_few}
 use Rattle.rises.specs.Arrangement.{fresh_one, kth_push, pushes_from, arrangement}
 
 -- what the pushes behind the k-th add up to

@@ -2,3 +2,9 @@ pub mod Sizes
 pub mod Digits
 pub mod Arranging
 pub mod Laying
+pub mod Way
+pub mod Single
+pub mod Bounded
+pub mod Attained
+pub mod Reached
+pub mod TapeReads

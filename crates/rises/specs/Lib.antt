@@ -1,7 +1,6 @@
 pub mod Way
 pub mod Totals
 pub mod Single
-pub mod Bounded
 pub mod Reached
 pub mod Wholes
 pub mod Arrangement

@@ -1,6 +1,7 @@
 -- `rises::floor_log2` meets its contract. Assumes nothing.
 use Rattle.std.proofs.Common.{◌≡◌, ◌+◌, ◌≤◌, arith, rules}
-use Rattle.rises.specs.Way.{floor_log2, log2_one, log2_on}
+use Rattle.rises.specs.Way.{floor_log2}
+use Rattle.rises.proofs.Way.{log2_one, log2_on}
 use Rattle.rises.proofs.floor_log2.Given as goal
 
 abbrev pub invariant-loop-left : goal.invariant-loop-left

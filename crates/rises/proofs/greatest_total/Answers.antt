@@ -1,9 +1,9 @@
 -- `rises::greatest_total` meets its contract.
 use Rattle.std.proofs.Common.{◌≡◌, ◌+◌, ◌-◌, ◌*◌, ◌≤◌, sym, refl, ap, ◌∙◌, arith, rules}
 use borrow.Author.Tests.{not-true, not-false}
-use Rattle.rises.specs.Way.{log2_small}
+use Rattle.rises.proofs.Way.{log2_small}
 use Rattle.rises.specs.Totals.{bound}
-use Rattle.rises.specs.Bounded.{bound-next}
+use Rattle.rises.proofs.Bounded.{bound-next}
 use Rattle.rises.proofs.Sizes.{size_most, greatest-refused, greatest_given}
 use Rattle.rises.proofs.greatest_total.Goals as goal
 

@@ -14,7 +14,8 @@ use Rattle.sequencer.specs.Pushes.{admitted}
 use Rattle.sequencer.specs.Rises.{rise_of, with_rise}
 use Rattle.rises.specs.Way.{floor_log2}
 use Rattle.rises.specs.Totals.{Push, pushed_by, is_number, total_rise, accepted_of, bound}
-use Rattle.rises.specs.Single.{no_of, event_of, entered_by, push-is, event-bounded}
+use Rattle.rises.specs.Single.{no_of, event_of, entered_by}
+use Rattle.rises.proofs.Single.{push-is, event-bounded}
 
 bound_grows : (m n : ℕ) → m ≤ n → bound m ≤ bound n
 unfolding bound
