@@ -1,4 +1,4 @@
-/* The live engine of Chakaqel: link target/staticlib/libchakaqel.a (`rt staticlib chakaqel`).
+/* The live engine of Chakaqel: link target/staticlib/libchakaqel.a (`.ci/built` makes it of crate chakaqel, by `rt lib`).
  *
  * The engine is memory that you lend: four arrays of numbers, 63,584 bytes, which every call changes in place. Put a
  * `chakaqel_engine` anywhere, copy it as you like (a copy is a snapshot), free it when you like. Nothing is allocated,

@@ -1,4 +1,4 @@
-/* The C entries of Chakaqel: link target/staticlib/librender.a (`rt staticlib render`).
+/* The C entries of Chakaqel: link target/staticlib/librender.a (`.ci/built` makes it of crate render_c, by `rt lib`).
  *
  * All of them: nothing is kept between calls, nothing is allocated, there are no globals and no locks, so any thread may
  * call at any time, with memory of its own. Everything lent is read or written by its length alone. A pointer must be

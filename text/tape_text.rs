@@ -81,7 +81,7 @@ fn run(name: &str, input: &[u8]) -> Result<Vec<u8>, String> {
         .stdout(Stdio::piped())
         .stderr(Stdio::piped())
         .spawn()
-        .map_err(|why| format!("{}: {why} (`rt check {name}` builds it in target/bin)", program.display()))?;
+        .map_err(|why| format!("{}: {why} (`rt run` in crates/{name} builds it, as out/{name})", program.display()))?;
     let mut stdin = child.stdin.take().expect("it is piped");
     let input = input.to_vec();
     let feeder = thread::spawn(move || stdin.write_all(&input));

@@ -493,7 +493,7 @@ fn main() {
         }
     } else {
         println!(
-            "\nSkipped: trail against oracle-trail, since target/bin/trail is not there (`rt check trail`)."
+            "\nSkipped: trail against oracle-trail, since target/bin/trail is not there (`rt ci` and `.ci/built`)."
         );
     }
     let seconds = start.elapsed().as_secs();

@@ -16,8 +16,8 @@ fn main() {
 
 /// The library's whole path, or what to do about it.
 fn library() -> Result<PathBuf, String> {
-    let how = "build libchakaqel.a with `rt staticlib chakaqel` at the root of the repository, \
-               then set it to the whole path of target/staticlib/libchakaqel.a";
+    let how = "build libchakaqel.a with `rt lib` in the repository's crates/chakaqel, \
+               then set it to the whole path of crates/chakaqel/out/libchakaqel.a";
     let Some(name) = std::env::var_os(VARIABLE) else {
         return Err(format!("{VARIABLE} is not set: {how}"));
     };
