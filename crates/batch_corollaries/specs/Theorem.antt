@@ -8,6 +8,7 @@ use Rattle.overlap.specs.Claim.{Same}
 use Rattle.overlap.proofs.Theorem as overlap
 use Rattle.rises.specs.Totals.{Push}
 use Rattle.rises.specs.Reached as rises
+use Rattle.rises.proofs.Reached as rises_proofs
 use Rattle.standing.specs.Theorem.{Drawn}
 use Rattle.standing.proofs.Theorem.{drawn}
 use Rattle.batch_claim.specs.Lists.{Item, all_numbers, ItemsLend}
@@ -21,7 +22,7 @@ module _ (channels : ℕ) (mode : ReplayMode) (first : ℕ) (f : first < 2 ^ 64)
 
   -- Paper 13: a push says how many levels its event rose
   pub rises-reached : (p : Push) → rises.Says (engine_then channels mode first is) p
-  rises-reached = with_runs (λ s l ns. (p : Push) → rises.Says s p) channels mode first f (λ cs h. rises.reached channels mode first cs f h) is lent
+  rises-reached = with_runs (λ s l ns. (p : Push) → rises.Says s p) channels mode first f (λ cs h. rises_proofs.reached channels mode first cs f h) is lent
 
   -- Paper 9: a marked call gives the samples of the unmarked one where all contributions qualify
   pub order_same_samples : SameSamples engine (engine_then channels mode first is) (ledger_then channels mode first is)

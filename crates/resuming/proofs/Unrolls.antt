@@ -29,7 +29,7 @@ module _ (form : Form) (pool : List Float) (tape : List ℕ) (whole : Bool) wher
   unrolls s c room =
       let n : ℕ = length tape in
       let long : length silence ≡ 512 = length-replicate 512 zeroᶠ in
-      enough_fuel n (suc n) s c silence room (omega arith) (omega arith)
+      enough_fuel form pool tape whole n (suc n) s c silence room (omega arith) (omega arith)
       ∙ ap (cond (is_short whole (length tape) c.at) (stops s c [] Short))
       (read_alike form pool (ran_from form pool tape whole n) (again form pool tape whole) (read_at tape c) s c silence silence room long long
       (λ t d v w left p q. same_samples_lem form pool tape whole n t d v silence left p long))
