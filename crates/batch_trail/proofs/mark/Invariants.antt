@@ -6,7 +6,7 @@ use mathlib.Core.Path.{◌≡◌}
 use Rattle.batch_trail.proofs.mark.Given as goal
 
 abbrev pub invariant-loop-i : goal.invariant-loop-i
-invariant-loop-i l = length l.numbers ≡ length l.initial.l.numbers
+invariant-loop-i l = length l.numbers ≡ length l.initial.numbers
 
 abbrev pub decreases-loop-i : goal.decreases-loop-i
-decreases-loop-i l = length l.initial.l.numbers - l.i
+decreases-loop-i l = length l.initial.numbers - l.i

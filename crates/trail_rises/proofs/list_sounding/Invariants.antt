@@ -4,7 +4,7 @@ use native.Mathlib.Omega.{arith}
 use Rattle.trail_rises.proofs.list_sounding.Given as goal
 
 abbrev pub invariant-loop-i : goal.invariant-loop-i
-invariant-loop-i l = (l.i ≤ l.n) × (l.n ≤ 256)
+invariant-loop-i g l = (l.i ≤ l.n) × (l.n ≤ 256)
 
 abbrev pub decreases-loop-i : goal.decreases-loop-i
-decreases-loop-i l = l.n - l.i
+decreases-loop-i g l = l.n - l.i

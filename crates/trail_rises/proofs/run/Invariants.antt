@@ -4,7 +4,7 @@ use lib.ListN.{length}
 use Rattle.trail_rises.proofs.run.Given as goal
 
 abbrev pub invariant-loop-turns : goal.invariant-loop-turns
-invariant-loop-turns l = length l.samples ≡ 512
+invariant-loop-turns g l = length l.samples ≡ 512
 
 abbrev pub decreases-loop-turns : goal.decreases-loop-turns
-decreases-loop-turns l = l.turns
+decreases-loop-turns g l = l.turns
