@@ -15,14 +15,23 @@ pub returns-then-tag-eq65534 : goal.returns-then-tag-eq65534
 unfolding mono_float
 returns-then-tag-eq65534 c =
     rw (
-      ← c.word.ensures, eq-eqb _ _ c.if-word-ne1.false, ← c.word-2.ensures, eq-eqb _ _ c.if-word-ne32.false, ← c.word-tag.ensures,
-      eq-eqb _ _ c.if-tag-eq65534.true, ← c.word-then-tag-eq65534.ensures,
+      ← c.word.ensures,
+      eq-eqb _ _ c.if-word-ne1.false,
+      ← c.word-2.ensures,
+      eq-eqb _ _ c.if-word-ne32.false,
+      ← c.word-tag.ensures,
+      eq-eqb _ _ c.if-tag-eq65534.true,
+      ← c.word-then-tag-eq65534.ensures,
     ) refl
 
 pub returns : goal.returns
 unfolding mono_float
 returns c =
     rw (
-      ← c.word.ensures, eq-eqb _ _ c.if-word-ne1.false, ← c.word-2.ensures, eq-eqb _ _ c.if-word-ne32.false, ← c.word-tag.ensures,
+      ← c.word.ensures,
+      eq-eqb _ _ c.if-word-ne1.false,
+      ← c.word-2.ensures,
+      eq-eqb _ _ c.if-word-ne32.false,
+      ← c.word-tag.ensures,
       ne_eqb _ _ c.if-tag-eq65534.false,
     ) refl

@@ -23,7 +23,9 @@ pub returns-then-is_option-3 : goal.returns-then-is_option-3
 unfolding places_of
 returns-then-is_option-3 c =
     rw (
-      ne_eqb _ _ c.if-count-eq2.false, eq-eqb _ _ c.if-count-ne4.false, sym c.is_option-2.ensures ∙ c.if-is_option-2.false,
+      ne_eqb _ _ c.if-count-eq2.false,
+      eq-eqb _ _ c.if-count-ne4.false,
+      sym c.is_option-2.ensures ∙ c.if-is_option-2.false,
       sym c.is_option-3.ensures ∙ c.if-is_option-3.true,
     ) refl
 
@@ -31,6 +33,8 @@ pub returns : goal.returns
 unfolding places_of
 returns c =
     rw (
-      ne_eqb _ _ c.if-count-eq2.false, eq-eqb _ _ c.if-count-ne4.false, sym c.is_option-2.ensures ∙ c.if-is_option-2.false,
+      ne_eqb _ _ c.if-count-eq2.false,
+      eq-eqb _ _ c.if-count-ne4.false,
+      sym c.is_option-2.ensures ∙ c.if-is_option-2.false,
       sym c.is_option-3.ensures ∙ c.if-is_option-3.false,
     ) refl
