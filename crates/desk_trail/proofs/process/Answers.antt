@@ -1,9 +1,0 @@
--- `desk_trail::process` is safe and ends: the output lent is within the samples. Assumes nothing.
-use mathlib.Core.Path.{sym}
-use lib.Seq.{length-take-le}
-use native.Mathlib.Omega.{arith}
-use borrow.Author.Rules.{rules}
-use Rattle.desk_trail.proofs.process.Goals as goal
-
-pub slice_bounds-process-end-2 : goal.slice_bounds-process-end-2
-slice_bounds-process-end-2 c = sym (length-take-le _ _ (omega arith))
