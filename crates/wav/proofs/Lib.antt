@@ -1,2 +1,4 @@
 pub mod Steps
 pub mod Headers
+pub mod Interleaved
+pub mod Written

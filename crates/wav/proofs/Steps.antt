@@ -7,7 +7,7 @@ use Rattle.listing.specs.Putting.{Putting, begin, further, ended, same-long, lef
 use Rattle.little_endian.specs.Samples.{sample_bytes, bytes_of, length_sample, bytes_append, put_there}
 use Rattle.peak.specs.Peaks.{magnitude, greatest}
 use Rattle.wav.specs.Frames.{frame_at, frames_from, data_bytes}
-use Rattle.wav.specs.Interleaved.{frame_long, frames_long}
+use Rattle.wav.proofs.Interleaved.{frame_long, frames_long}
 
 -- room for n runs of s is room for one and for n - 1 behind it
 one_less : (n at s len : ℕ) → 0 < n → at + n * s ≤ len → at + s + (n - 1) * s ≤ len
