@@ -1,6 +1,0 @@
--- `trail_story::tell` is safe and ends. Assumes nothing.
-use Rattle.std.proofs.Common.{◌≡◌, length, arith, rules}
-use Rattle.trail_story.proofs.tell.Given as goal
-
-abbrev pub invariant-loop : goal.invariant-loop
-invariant-loop l = (length l.samples ≡ length l.initial.l.samples) × (length l.clips ≡ length l.initial.l.clips) × (length l.places ≡ length l.initial.l.places)
