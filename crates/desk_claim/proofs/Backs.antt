@@ -36,7 +36,8 @@ use Rattle.realseq.specs.Handling.{past_sent_by, past_sent, drained}
 use Rattle.realseq.specs.Answers.{renders, refuses}
 use Rattle.realseq.specs.Backs.{with_engine, tick_no, ticks, tick_outs, block_no, blocks, block_outs, rates}
 use Rattle.realseq.specs.Answers.{accepts}
-use Rattle.desk_claim.specs.Related.{DeskRelated, plain_of, empty_related}
+use Rattle.desk_claim.specs.Related.{DeskRelated}
+use Rattle.desk_claim.proofs.Related.{plain_of, empty_related}
 use Rattle.desk_claim.proofs.LettingGo.{past_related, restarted_related}
 use Rattle.desk_claim.proofs.Draining.{drained_related}
 use Rattle.desk_claim.specs.EngineCalls.{gives}

@@ -18,7 +18,8 @@ use Rattle.realseq.specs.Queues.{is_reset}
 use Rattle.realseq.specs.Handling.{restarted, stepped, handled, drained}
 use Rattle.realseq.specs.Fronts.{push_message, edit_message}
 use Rattle.desk_claim.specs.Ring.{queued_first, queued_count}
-use Rattle.desk_claim.specs.Related.{message_of, messages_from, messages_length, DeskRelated}
+use Rattle.desk_claim.specs.Related.{message_of, messages_from, DeskRelated}
+use Rattle.desk_claim.proofs.Related.{messages_length}
 use Rattle.desk_claim.proofs.Messages.{stepped_related}
 use Rattle.desk_claim.proofs.LettingGo.{restarted_related}
 

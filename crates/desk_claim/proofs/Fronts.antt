@@ -29,7 +29,8 @@ use Rattle.realseq.specs.Answers.{refuses}
 use Rattle.desk_claim.specs.Ring as Ring
 use Rattle.desk_claim.specs.Ring.{queued_push}
 use Rattle.desk_claim.specs.ReturnQueue.{returns-emptied}
-use Rattle.desk_claim.specs.Related.{message_of, messages_from, messages_length, messages_last, DeskRelated}
+use Rattle.desk_claim.specs.Related.{message_of, messages_from, DeskRelated}
+use Rattle.desk_claim.proofs.Related.{messages_length, messages_last}
 use Rattle.desk_claim.specs.EngineCalls.{gives}
 use Rattle.desk_claim.proofs.Refusals.{Keeps, by_refusal, push-agrees, edit-agrees, reset-agrees}
 

@@ -19,7 +19,8 @@ use Rattle.desk.specs.Desk.{Desk, send_finished, reset_of}
 use Rattle.realseq.specs.declared.SequencerBackend.{SequencerBackend}
 use Rattle.realseq.specs.Handling.{past_sent_by, returned_by, restarted}
 use Rattle.desk_claim.specs.ReturnQueue.{returns_to, returns-list, returns-heap, three-sent}
-use Rattle.desk_claim.specs.Related.{DeskRelated, plain_of, empty_related}
+use Rattle.desk_claim.specs.Related.{DeskRelated}
+use Rattle.desk_claim.proofs.Related.{plain_of, empty_related}
 
 -- ---- how many are let go: from either end it is as many
 

@@ -7,3 +7,4 @@ pub mod Draining
 pub mod Fronts
 pub mod Backs
 pub mod Theorem
+pub mod Related

@@ -22,7 +22,8 @@ use Rattle.realseq.specs.declared.SequencerBackend.{SequencerBackend}
 use Rattle.realseq.specs.Queues.{tallied}
 use Rattle.realseq.specs.Fronts.{push_refused, edit_refused}
 use Rattle.desk_claim.specs.Ring.{queued_count, queued_tally}
-use Rattle.desk_claim.specs.Related.{messages_length, pushes-tally, edits-tally, DeskRelated}
+use Rattle.desk_claim.specs.Related.{DeskRelated}
+use Rattle.desk_claim.proofs.Related.{messages_length, pushes-tally, edits-tally}
 
 -- ---- a call is refused by both with one number, or carried out by both
 

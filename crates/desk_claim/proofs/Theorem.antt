@@ -17,7 +17,8 @@ use Rattle.desk.specs.Lawful.{DeskLawful}
 use Rattle.desk.proofs.LawfulCalls.{step_lawful}
 use Rattle.desk.proofs.ClaimByRelation.{desk-claim_by_relation, reached}
 use Rattle.realseq.specs.declared.SequencerBackend.{SequencerBackend}
-use Rattle.desk_claim.specs.Related.{shown, messages_shown, DeskRelated, opened_related}
+use Rattle.desk_claim.specs.Related.{shown, DeskRelated}
+use Rattle.desk_claim.proofs.Related.{messages_shown, opened_related}
 use Rattle.desk_claim.specs.EngineCalls.{desk_new, desk_call, desk_view, desk_engine}
 use Rattle.desk_claim.specs.CarriedOut.{after, Shows, Does}
 use Rattle.desk_claim.proofs.Refusals.{Keeps}

@@ -6,3 +6,5 @@ pub mod Resuming
 pub mod Moved
 pub mod Onward
 pub mod Reasons
+pub mod Full
+pub mod FullMoves

@@ -15,7 +15,8 @@ use Rattle.ledger.proofs.FadesByPlace.{length-faded-run}
 use Rattle.ledger.proofs.FormerMethod.{length_channel}
 use Rattle.sums.specs.Multiples.{multiples, summed, exact_sum, Exactly}
 use Rattle.sums.specs.Contributions.{tick_contributions, contribution, block_contributions}
-use Rattle.sums.specs.Theorem.{Sums, sums}
+use Rattle.sums.specs.Theorem.{Sums}
+use Rattle.sums.proofs.Theorem.{sums}
 
 -- ---- the sample of a tick
 

@@ -3,3 +3,5 @@ pub mod AnyOrder
 pub mod Engines
 pub mod Marked
 pub mod Qualifying
+pub mod Exact
+pub mod Theorem

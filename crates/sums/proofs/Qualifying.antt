@@ -20,7 +20,7 @@ use Rattle.ledger.specs.BlockSamples.{Span, first_place, end_place, fade_in_plac
 use Rattle.ledger.proofs.FadesByPlace.{faded_in_at, faded_out_at, fades_by_place}
 use Rattle.sums.specs.Multiples.{multiple, multiples}
 use Rattle.sums.proofs.AnyOrder.{sums_of_tick, sums_of_block}
-use Rattle.sums.specs.Exact.{part, multiple_of, round-exactly}
+use Rattle.sums.proofs.Exact.{part, multiple_of, round-exactly}
 use Rattle.sums.specs.Contributions.{All, tick_contributions, unfaded_tick, TickQualifies, sounds_at, contribution, block_contributions, unfaded_at, BlockQualifies}
 use Rattle.sums.specs.Theorem.{Sums}
 

@@ -16,7 +16,8 @@ use Rattle.resuming.specs.Resumes.{waits}
 use Rattle.resuming.proofs.Resuming.{resumes}
 use Rattle.resuming.proofs.Moved.{moved}
 use Rattle.resuming.proofs.Reasons.{Possible, possible}
-use Rattle.resuming.proofs.Onward.{onward, full-moves}
+use Rattle.resuming.proofs.Onward.{onward}
+use Rattle.resuming.proofs.FullMoves.{full-moves}
 use Rattle.tape_listing.specs.Listing.{listed_with}
 use Rattle.tape_listing.proofs.Listed.{runs_listed}
 use Rattle.tape_listing.specs.Calls.{tape_of, next_read, later_reads, Lister, begins, call, resumed, read_on, written_after, written}
