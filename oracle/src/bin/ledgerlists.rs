@@ -546,7 +546,7 @@ fn call_text(call: &Call, order: MixOrder) -> String {
             let kind = match kind {
                 PushKind::Absolute => "absolute",
                 PushKind::Relative => "relative",
-                PushKind::Duration => "byDuration",
+                PushKind::Duration => "by_duration",
             };
             let times = [push.start, push.end, push.fade_in, push.fade_out]
                 .map(double)
@@ -560,8 +560,8 @@ fn call_text(call: &Call, order: MixOrder) -> String {
         }
         Call::Edit(timing, edit) => {
             let kind = match timing {
-                Timing::Absolute => "absoluteEnd",
-                Timing::Relative => "relativeEnd",
+                Timing::Absolute => "absolute_end",
+                Timing::Relative => "relative_end",
             };
             format!(
                 "edit {kind} {} {} {}",
@@ -762,18 +762,15 @@ fn about(beyond: Beyond) -> &'static str {
 }
 
 const IMPORTS: &str = "\
-use mathlib.Core.Path.{_≡_, refl}
-use mathlib.Core.Bool.{true, false}
-use mathlib.Core.List.{List, [], _∷_}
-use mathlib.Core.Option.{none, some}
-use lib.IntN.{pos, negsuc}
-use lib.Ieee.{nan, inf, fin}
-use Rattle·event.specs.declared.Fade.the-variants.{Power, Smooth}
-use Rattle·event.specs.declared.MixOrder.the-variants.{Forward, Backward}
-use Rattle·event.specs.declared.ReplayMode.the-variants.{All, None}
-use Rattle·event.specs.declared.Source.the-variants.{Held, Ramp, Clip}
-use Rattle·ledger.specs.Calls.{push, edit, tick, block, rate, reset, absolute, relative, byDuration, absoluteEnd, relativeEnd, number, applied, past, stored, done, refused}
-use Rattle·ledger_trials·specs.specs.Trials.{Trial, pool, quarters, says, ticks, blocks, allAgree}
+use Rattle.std.specs.Prelude.{◌≡◌, refl, true, false, List, [], ◌∷◌, pos, negsuc}
+use Rattle.std.proofs.Math.Option.{none, some}
+use Rattle.std.specs.Float.{nan, inf, fin}
+use Rattle.event.specs.declared.Fade.TheVariants.{Power, Smooth}
+use Rattle.event.specs.declared.MixOrder.TheVariants.{Forward, Backward}
+use Rattle.event.specs.declared.ReplayMode.TheVariants.{All, None}
+use Rattle.event.specs.declared.Source.TheVariants.{Held, Ramp, Clip}
+use Rattle.ledger.specs.Calls.{push, edit, tick, block, rate, reset, absolute, relative, by_duration, absolute_end, relative_end, number, applied, past, stored, done, refused}
+use Rattle.ledger_trials.specs.Trials.{Trial, pool, quarters, says, ticks, blocks, all_agree}
 ";
 
 fn main() -> ExitCode {
@@ -808,7 +805,7 @@ fn main() -> ExitCode {
 fn print_group(group: usize, trials: Vec<String>) {
     println!("\nunfoldable pub lists{group} : List Trial");
     println!("lists{group} =\n    {}\n    ∷ []", trials.join("\n    ∷ "));
-    println!("\npub agree{group} : allAgree lists{group} ≡ true");
-    println!("unfolding allAgree lists{group}");
+    println!("\npub agree{group} : all_agree lists{group} ≡ true");
+    println!("unfolding all_agree lists{group}");
     println!("agree{group} = refl");
 }
