@@ -102,8 +102,9 @@ impl SequencerBackend {
     }
 
     // A reset acts: in mode None the finished go back from the end, the waiting in order, the sounding from the end.
-    fn restart(mut self) -> SequencerBackend
-        ensures { result ≡ restarted self }
+    #[inline(never)]
+    fn restart(&mut self)
+        ensures { self.new ≡ restarted self.old }
     {
         let s = self.sequencer;
         let mode = s.mode;
@@ -111,7 +112,6 @@ impl SequencerBackend {
             ReplayMode::All => {
                 let s = s.reset();
                 self.sequencer = s;
-                self
             }
             ReplayMode::None => {
                 let q = self.returned;
@@ -121,14 +121,14 @@ impl SequencerBackend {
                 self.returned = q;
                 let s = s.reset();
                 self.sequencer = s;
-                self
             }
         }
     }
 
     // The queued messages up to the first reset.
-    fn handle_until_reset(mut self) -> SequencerBackend
-        ensures { result ≡ until_reset self }
+    #[inline(never)]
+    fn handle_until_reset(&mut self)
+        ensures { self.new ≡ until_reset self.old }
     {
         loop {
             let q = self.messages;
@@ -145,58 +145,58 @@ impl SequencerBackend {
             let s = handle(s, m);
             self.sequencer = s;
         }
-        self
     }
 
     // The first message is taken off.
-    fn take(mut self) -> SequencerBackend
-        ensures { result ≡ taken self }
+    #[inline(never)]
+    fn take(&mut self)
+        ensures { self.new ≡ taken self.old }
     {
         let q = self.messages;
         let q = q.pop();
         self.messages = q;
-        self
     }
 
-    fn queued(self) -> usize
-        ensures { result ≡ self.messages.count }
+    fn queued(&self) -> usize
+        ensures { result ≡ self.now.messages.count }
     {
-        let q = self.messages;
-        q.count
+        self.messages.count
     }
 
-    // The queued messages, first to last.
+    // The queued messages, first to last. A frame of this nesting holds no desk: its steps are functions of their own, in place (docs/HANDBOOK.md: the stack).
     #[cycle(handle_messages_reset)]
-    fn handle_messages(mut self) -> SequencerBackend
-        ensures { result ≡ drained self }
+    fn handle_messages(&mut self)
+        ensures { self.new ≡ drained self.old }
     {
-        self = self.handle_until_reset();
+        self.handle_until_reset();
         if 0 < self.queued() {
-            self = self.take();
-            self = self.reset();
+            self.take();
+            self.reset_in_place();
         }
-        self
+    }
+
+    // The back's reset, in place.
+    #[cycle(handle_messages_reset)]
+    fn reset_in_place(&mut self)
+        ensures { self.new ≡ reset self.old }
+    {
+        self.handle_messages();
+        self.restart();
     }
 
     // The back's reset.
-    #[cycle(handle_messages_reset)]
-    pub fn reset(self) -> SequencerBackend
+    pub fn reset(mut self) -> SequencerBackend
         ensures { result ≡ reset self }
     {
-        let mut d = self.handle_messages();
-        d = d.restart();
-        d
+        self.reset_in_place();
+        self
     }
 
-    // The back's first step in each of its other calls. Its steps are those of `handle_messages`, which `reset` alone calls: the compiler then makes one function of the two, whose frame is one desk (docs/HANDBOOK.md: the stack).
+    // The back's first step in each of its other calls.
     pub(crate) fn drain(mut self) -> SequencerBackend
         ensures { result ≡ drained self }
     {
-        self = self.handle_until_reset();
-        if 0 < self.queued() {
-            self = self.take();
-            self = self.reset();
-        }
+        self.handle_messages();
         self
     }
 }
