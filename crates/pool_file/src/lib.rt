@@ -296,7 +296,7 @@ fn load_from<E: Eprint, R: Read>(rt: &E, from: &mut R, pool: &mut [f32]) -> Load
 }
 
 // Puts the samples of the file that a path names into `pool`. What is wrong is said on standard error.
-pub fn load<R: Files + Eprint + Alloc>(rt: &R, path: &[u8], pool: &mut [f32]) -> Loaded
+pub fn load<R: Files + Eprint>(rt: &R, path: &[u8], pool: &mut [f32]) -> Loaded
     ensures bound { result.count ≤ length pool.old }
     ensures lent { Loads pool.old pool.new result }
 {

@@ -3,7 +3,7 @@
 
 ghost use Rattle.std.specs.Prelude.{◌≡◌, ◌≤◌, length, take};
 
-use std::io::Read;
+use std::io::{Read, Write};
 use std::rt::{Env, Files};
 use std::{env, fs, io, str};
 
@@ -100,11 +100,18 @@ fn without_number(words: &str) -> &str {
     }
 }
 
+// The longest words of the system for an error, with its number.
+const WORDS: usize = 256;
+
 // Says on standard error what failed, as the caller names it, and why.
-pub fn fail<R: Eprint + Alloc>(rt: &R, what: &[u8], error: &io::Error) {
+pub fn fail<E: Eprint>(rt: &E, what: &[u8], error: &io::Error) {
+    let mut words = [0u8; WORDS];
+    let mut room: &mut [u8] = &mut words;
+    let _ = write!(room, "{error}");
+    let left = room.len();
     let what = text(what);
-    if let Ok(words) = format!(in rt.alloc(); "{error}") {
-        let words = without_number(words.as_str());
-        let _ = eprint!(rt; "{what}: {words}\n");
+    if left <= WORDS {
+        let why = without_number(text(&words[..WORDS - left]));
+        let _ = eprint!(rt; "{what}: {why}\n");
     }
 }

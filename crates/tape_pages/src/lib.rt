@@ -62,7 +62,7 @@ fn usage<E: Eprint>(rt: &E, who: &[u8], what: &[u8]) {
 }
 
 // The pool of the file that an argument names, or document 01's.
-fn load<R: Files + Env + Eprint + Alloc>(rt: &R, argument: usize, pool: &mut [f32]) -> Loaded
+fn load<R: Files + Env + Eprint>(rt: &R, argument: usize, pool: &mut [f32]) -> Loaded
     ensures bound { result.count ≤ length pool.old }
     ensures lent { Loads pool.old pool.new result }
 {
@@ -95,7 +95,7 @@ fn not_opened<F>() -> Opened<F>
 }
 
 // Opens the tape that the program's arguments name, with its name in `name` and the pool in `pool`. What is wrong is said on standard error.
-pub fn open<R: Files + Env + Eprint + Alloc>(
+pub fn open<R: Files + Env + Eprint>(
     rt: &R,
     who: &[u8],
     what: &[u8],
