@@ -21,12 +21,20 @@ def statements(text):
     """The public theorems of a file: name and signature."""
     out = {}
     lines = text.split("\n")
+    record = None
     for i, line in enumerate(lines):
+        indent = len(line) - len(line.lstrip())
+        if record is not None and line.strip() and indent <= record:
+            record = None
+        if re.match(r" *(?:abbrev |unfoldable |pub )*(?:record|data) ", line):
+            record = indent
+            continue
         m = SIGNATURE.match(line)
-        if not m:
+        if not m or record is not None:
+            # fields and constructors are no theorems
             continue
         whole, k = [line.strip()], i + 1
-        while k < len(lines) and lines[k].strip() and len(lines[k]) - len(lines[k].lstrip()) > len(m.group(1)):
+        while k < len(lines) and lines[k].strip() and (len(lines[k]) - len(lines[k].lstrip()) > len(m.group(1)) or lines[k].strip()[0] in ")]}"):
             whole.append(lines[k].strip())
             k += 1
         out[m.group(2)] = " ".join(whole)

@@ -1,7 +1,7 @@
 #!/usr/bin/env python3
 """Splits files of a crate's specs/: definitions stay, theorems go to the file of the same name in proofs/, statements unchanged (docs/PORT.md).
 
-usage: python3 tools/split_laws.py CRATE FILE ..     each FILE is a module of crates/CRATE/specs, as Way
+usage: python3 tools/split_laws.py [--back] CRATE FILE ..     each FILE is a module of crates/CRATE/specs, as Way; with --back one that tools/move_laws.py took to proofs/ whole
 
 A theorem of a block `module _ (p : A) .. where` stands in the same block in proofs/, where a definition of the block is written with the block's explicit parameters.
 Afterwards other files' `use` lines are split by where each name stands.
@@ -11,7 +11,8 @@ import re
 import sys
 
 root = os.path.dirname(os.path.dirname(os.path.abspath(__file__)))
-crate, *files = sys.argv[1:]
+back = sys.argv[1] == "--back"
+crate, *files = sys.argv[2 if back else 1 :]
 base = os.path.join(root, "crates", crate)
 NAME = r"[^\s:(){}\[\];,]+"
 HEAD = re.compile(r"(?P<kind>(?:abbrev |unfoldable )?(?:pub )?(?:abbrev |unfoldable )?(?:record |data )?)(?P<name>" + NAME + r")(?= :| \(| \{| =|$| )")
@@ -76,10 +77,36 @@ def published(lines, name):
     return lines
 
 
+def take_back(files):
+    """What tools/move_laws.py did to these files, undone."""
+    for name in files:
+        if os.path.exists(os.path.join(base, "specs", name + ".antt")):
+            sys.exit(f"specs/{name}.antt stands already")
+    for name in files:
+        os.rename(os.path.join(base, "proofs", name + ".antt"), os.path.join(base, "specs", name + ".antt"))
+        lib = os.path.join(base, "proofs", "Lib.antt")
+        write(lib, re.sub(rf"(?m)^(?:pub )?mod {name}\n", "", text_of(lib)))
+        lib = os.path.join(base, "specs", "Lib.antt")
+        write(lib, text_of(lib).rstrip("\n") + f"\npub mod {name}\n")
+    which = "|".join(re.escape(f) for f in files)
+    for top in ("crates", "wrong-engines", "more-edits"):
+        for folder, dirs, names in os.walk(os.path.join(root, top)):
+            dirs[:] = [d for d in dirs if d not in ("out", ".git", "target")]
+            for n in names:
+                if n.endswith((".antt", ".rt", ".edit")):
+                    p = os.path.join(folder, n)
+                    t = text_of(p)
+                    u = re.sub(rf"(Rattle\.{crate}\.)proofs(\.(?:{which}))(?![\w-])", r"\1specs\2", t)
+                    if u != t:
+                        write(p, u)
+
+
 def explicit(params):
     return re.findall(r"\(([^():]+) :", params)
 
 
+if back:
+    take_back(files)
 for name in files:
     p, q = os.path.join(base, "specs", name + ".antt"), os.path.join(base, "proofs", name + ".antt")
     if os.path.exists(q):
@@ -107,13 +134,18 @@ for name in files:
             blocks.append((None, lines[at:end]))
             at = end
     specs, proofs, defs = [], [], []
+    heading = []
     for module, body in blocks:
         items = items_of(body, 2 if module else 0)
+        if not items:
+            # comments between two blocks head the second
+            heading += body
+            continue
         kept = [it for it in items if it[2]]
         gone = [it for it in items if not it[2]]
         defs += [it[1] for it in kept if it[1]]
         if kept:
-            specs += ([module] if module else []) + [l for it in kept for l in published(it[0], it[1] or "\0")]
+            specs += heading + ([module] if module else []) + [l for it in kept for l in published(it[0], it[1] or "\0")]
         if gone:
             out = [l for it in gone for l in it[0]]
             if module and kept:
@@ -123,7 +155,8 @@ for name in files:
                         l if re.match(r"\s*(unfolding |--)", l) else re.sub(r"(?<![\w.'\u25cc-])" + re.escape(d) + r"(?![\w'-])(?!\s*=\s)", f"({d} {with_params})", l)
                         for l in out
                     ]
-            proofs += ([module] if module else []) + out
+            proofs += heading + ([module] if module else []) + out
+        heading = []
     if not proofs:
         print(f"{name}: no theorem")
         continue
@@ -138,7 +171,7 @@ for name in files:
                 k += 1
     stays = "\n".join(specs)
     extra = []
-    for m in re.finditer(r"(?m)^\s*(?:pub )?data .* where\n((?:\s+.*\n?)*)", stays):
+    for m in re.finditer(r"(?m)^ *(?:pub )?data .* where\n((?: +.*\n?)*)", stays):
         extra += re.findall(r"(?m)^\s+(?:pub )?(" + NAME + r")(?: " + NAME + r")* :", m.group(1))
     lib = f"Rattle.{crate}.specs.{name}"
     first = [h for h in head if h.strip()]

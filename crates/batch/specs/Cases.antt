@@ -9,7 +9,7 @@ use Rattle.floats.specs.Arithmetic.{oneᶠ}
 use Rattle.ledger.specs.Calls.{Call, push, PushKind, absolute, relative, by_duration, number, applied, past, stored, done, refused, Reply}
 use Rattle.apply.specs.RecordCalls.{refusal_of}
 use Rattle.ledger.specs.Ledger.{Ledger, create}
-use Rattle.ledger.proofs.LedgerMeets.{pair_of}
+use Rattle.ledger.specs.LedgerMeets.{pair_of}
 use Rattle.ledger.specs.Steps.{step}
 use Rattle.ledger.specs.Computes.{computes}
 use Rattle.tape.specs.Fields.{field, from_little_endian}

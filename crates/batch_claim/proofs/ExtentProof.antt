@@ -1,8 +1,8 @@
 -- "reads no further": the result of a run, and of the whole call, depends on the bytes that it reads alone (Extent.antt). Assumes nothing.
-use Prim.Native.Nat.{ℕ, zero, suc, ◌+◌, ◌-◌, min, ◌≤◌, ◌<◌}
-use Rattle.std.specs.Prelude.{Bool, not, ◌&&◌, ◌||◌, ◌≡◌, List, [], ◌∷◌, ◌++◌, ltb, leb, eqb, length, get_or, drop, Float}
+use Prim.Native.Nat.{ℕ, zero, suc, ◌+◌, ◌-◌, ◌≤◌, ◌<◌}
+use Rattle.std.specs.Prelude.{Bool, not, ◌&&◌, ◌≡◌, List, [], ◌∷◌, ◌++◌, ltb, leb, eqb, length, get_or, drop}
 use Rattle.std.proofs.Math.Bool.{true, false, cond}
-use Rattle.std.proofs.Common.{true≢false, sym, ap, ap₂, ◌∙◌, subst, ⊎_elim, arith, lt-ltb, le-ltb, ltb-true, ltb-false, leb-true, eq-eqb, ne_eqb, eqb-true, lit<, lit≤, length-take, get_or-take, take-take}
+use Rattle.std.proofs.Common.{true≢false, sym, ap, ◌∙◌, subst, arith, lt-ltb, le-ltb, ltb-true, ltb-false, leb-true, eq-eqb, ne_eqb, eqb-true, lit<, lit≤, length-take, get_or-take, take-take}
 use Rattle.std.proofs.Math.Path.{refl}
 use Rattle.std.proofs.Math.ListN.{take}
 use Rattle.std.proofs.Math.Seq.{take-nil}
@@ -10,7 +10,7 @@ use Rattle.std.proofs.lemmas.List.{take-append-le}
 use Rattle.ledger.specs.Calls.{Call, Reply}
 use Rattle.ledger.specs.Claim.{accepted_of}
 use Rattle.tape.specs.Fields.{field, from_little_endian}
-use Rattle.tape.specs.Tape.{kind_of, gain_kind, plain_kind, push_kind, unknown_push, sizes, size_of, source_of, push_of}
+use Rattle.tape.specs.Tape.{kind_of, gain_kind, push_kind, unknown_push, sizes, size_of, source_of, push_of}
 use Rattle.floats.specs.Arithmetic.{oneᶠ}
 use Rattle.std.specs.Float.{binary32}
 use Rattle.std.specs.Float.Ieee.{of_bits}
@@ -21,12 +21,7 @@ use Rattle.batch.specs.Contract.{push_records, numbers_after}
 use Rattle.sequencer.specs.declared.Sequencer.{Sequencer}
 use Rattle.claim.specs.EngineCalls.{engine_call}
 use Rattle.batch_claim.specs.Extent.{reach, bytes_read, call_reads}
-
--- ---- the length of a push
-
--- of a kind and its length
-abbrev length_ok : ℕ → ℕ → Bool
-length_ok k x = cond (push_kind k) (leb 43 x && cond (gain_kind k) (leb 47 x) true) true
+use Rattle.batch_claim.specs.ExtentProof.{length_ok, Alone}
 
 all_ok : ℕ → List ℕ → Bool
 all_ok k [] = true
@@ -181,10 +176,7 @@ module _ (m : ℕ) (bs cs : List ℕ) (r : reach bs ≤ m) (h : take m bs ≡ ta
   same-call p = sym (call_same m cs within (ap push_kind same_kind ∙ p)) ∙ ap call_of (sym h) ∙ call_same m bs r p
 
 module _ {S : Type 0} (call : S → Call → S × Reply) where
-  abbrev Alone : ℕ → Type 0
-  Alone n = (bs cs : List ℕ) (s : S) → take (bytes_read call n bs s) bs ≡ take (bytes_read call n bs s) cs → push_run call n bs s ≡ push_run call n cs s
-
-  one-read : (n : ℕ) → Alone n → Alone (suc n)
+  one-read : (n : ℕ) → Alone call n → Alone call (suc n)
   unfolding push_run bytes_read
   one-read n ih bs cs s h = go (eqb (stop_of bs) 0) refl
     where
@@ -234,7 +226,7 @@ module _ {S : Type 0} (call : S → Call → S × Reply) where
           goes z e (same-call all bs cs r h (push_there bs z)) (eqb no 0) refl
 
   -- the result depends on the bytes that are read alone
-  pub reads_alone : (n : ℕ) → Alone n
+  pub reads_alone : (n : ℕ) → Alone call n
   unfolding push_run
   reads_alone zero bs cs s h = refl
   reads_alone (suc n) bs cs s h = one-read n (reads_alone n) bs cs s h

@@ -4,10 +4,11 @@
 use Rattle.std.specs.Prelude.{ℕ, zero, suc, ◌^◌, ◌<◌, Bool, true, false, cond, ◌≡◌, refl, List, [], ◌∷◌, ◌++◌, eqb, length, drop}
 use Rattle.std.proofs.Common.{sym, ap, ap₂, ◌∙◌, subst, arith}
 use Rattle.event.specs.declared.ReplayMode.{ReplayMode}
-use Rattle.ledger.specs.Calls.{Call, Answer, Reply}
+use Rattle.ledger.specs.Calls.{Call, Answer}
 use Rattle.ledger.specs.Ledger.{Ledger, create}
 use Rattle.ledger.specs.Steps.{step, run}
-use Rattle.ledger.proofs.Lawful.{Lawful, create_lawful, step_lawful}
+use Rattle.ledger.specs.Lawful.{Lawful}
+use Rattle.ledger.proofs.Lawful.{create_lawful, step_lawful}
 use Rattle.ledger.specs.Claim.{accepted_of, accepted, calls, engine_after, ledger_after, SameReply, AllLend}
 use Rattle.sequencer.specs.declared.Sequencer.{Sequencer}
 use Rattle.claim.specs.Related.{Related}
@@ -21,21 +22,10 @@ use Rattle.batch.specs.Records.{beyond, stop_of, call_of}
 use Rattle.apply.specs.RecordCalls.{refusal_of}
 use Rattle.batch.specs.Run.{Pushed, ends, behind, push_run, push_all, written}
 use Rattle.batch_claim.specs.Singles.{reading, up_to_refused, singles}
-use Rattle.batch_claim.specs.Lists.{Item, single, batch, ItemReply, answer_of, items, flat, parts, numbers_of, all_numbers, ItemsLend, SameItem, SameItems}
+use Rattle.batch_claim.specs.Lists.{Item, single, batch, items, flat, all_numbers, ItemsLend}
 use Rattle.batch_claim.proofs.ListsProof.{items-flat, lend_reading, lend_flat, parts_whole, numbers-by-item, numbers-flat}
 use Rattle.batch_claim.specs.WithBatches.{plain, single_calls, engine_then, ledger_then, replies_then, WithBatches}
-
--- ---- one run
-
--- two runs of pushes end alike, on an engine and on the ledger
-pub record Alike (s : Pushed Sequencer) (l : Pushed Ledger) : Type 0 where
-  pub related : Related s.state l.state
-  pub lawful : Lawful l.state
-  pub numbers : s.numbers ≡ l.numbers
-  pub ended : s.ended ≡ l.ended
-
-abbrev ledger_call : Ledger → Call → Ledger × Reply
-ledger_call = plain.call
+use Rattle.batch_claim.specs.Theorem.{Alike, ledger_call, Follows}
 
 module _ (n : ℕ) (bs : List ℕ) (s : Sequencer) (l : Ledger) (w : Lawful l) (r : Related s l) where
   -- a record, where the rest is known
@@ -116,10 +106,6 @@ singles_alike : (bs : List ℕ) (n : ℕ) (slice : List ℕ) (s : Sequencer) (l 
     → singles engine.call bs n slice s ≡ singles ledger_call bs n slice l
 unfolding singles
 singles_alike bs n slice s l w r = ap (cond (beyond n (length slice)) []) (made_alike (reading n bs).calls (lend_reading false n bs) s l w r)
-
-pub record Follows (is : List Item) (s : Sequencer) (l : Ledger) : Type 0 where
-  pub calls_same : flat engine is s ≡ flat plain is l
-  pub replies-same : SameItems (items engine is s).1 (items plain is l).1
 
 follows : (is : List Item) (s : Sequencer) (l : Ledger) → ItemsLend false is → Lawful l → Related s l → Follows is s l
 unfolding items flat

@@ -5,7 +5,7 @@ use Rattle.event.specs.declared.ReplayMode.{ReplayMode}
 use Rattle.ledger.specs.Calls.{Call, Reply}
 use Rattle.ledger.specs.Ledger.{Ledger, create}
 use Rattle.ledger.specs.Steps.{step}
-use Rattle.ledger.proofs.LedgerMeets.{pair_of, engine_of}
+use Rattle.ledger.specs.LedgerMeets.{pair_of, engine_of}
 use Rattle.ledger.specs.Claim.{accepted, Engine, engine_after, ledger_after, AllLend, ClaimAt}
 use Rattle.sequencer.specs.declared.Sequencer.{Sequencer}
 use Rattle.claim.specs.EngineCalls.{engine_new, engine}

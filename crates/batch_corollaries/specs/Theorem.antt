@@ -1,7 +1,7 @@
 -- What is proved after every list of calls holds after every list with runs of push records (document 02, Paper 1), by `with_runs`. Assumes nothing.
 use Rattle.std.specs.Prelude.{ℕ, ◌^◌, ◌<◌, List}
 use Rattle.event.specs.declared.ReplayMode.{ReplayMode}
-use Rattle.sums.proofs.Engines.{SameSamples}
+use Rattle.sums.specs.Engines.{SameSamples}
 use Rattle.claim.specs.EngineCalls.{engine}
 use Rattle.order_claim.specs.Theorem.{engine-same_samples}
 use Rattle.overlap.specs.Claim.{Same}

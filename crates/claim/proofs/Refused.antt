@@ -5,10 +5,10 @@ use Rattle.std.proofs.Math.Option.{none, some}
 use Rattle.event.specs.declared.Edit.{Edit}
 use Rattle.event.specs.declared.EventId.{EventId}
 use Rattle.floats.specs.Arithmetic.{◌-ᵈ◌, ◌<ᶠ◌}
-use Rattle.ledger.specs.Calls.{Call, push, edit, tick, block, rate, reset, refused, Reply}
+use Rattle.ledger.specs.Calls.{Call, push, edit, tick, block, rate, reset, refused}
 use Rattle.ledger.specs.Refusals.{stated_end, edit_end}
 use Rattle.ledger.specs.Steps.{pushed_time}
-use Rattle.ledger.proofs.Refused.{lent_out, refused_with}
+use Rattle.ledger.specs.Refused.{refused_with}
 use Rattle.refusals.specs.Refusals.{push_refusal, edit_refusal, tick_refusal, process_refusal, rate_refusal}
 use Rattle.lists.specs.declared.Found.{Found}
 use Rattle.lists.specs.declared.Found.TheVariants.{At, Nothing}
@@ -22,10 +22,7 @@ use Rattle.sequencer.specs.Readers.{place_in}
 use Rattle.sequencer.specs.Rendering.{rendered_tick, rendered_tick_out, ticks, tick_outs, rendered_block, rendered_places, rendered_block_out, blocks, block_outs}
 use Rattle.sequencer.specs.Resets.{re_rated, rates}
 use Rattle.claim.specs.EngineCalls.{gives, engine_call}
-
--- what a refused call gives back
-abbrev pub Unchanged : Sequencer → Call → Sequencer × Reply → Type 0
-Unchanged s c r = (r.0 ≡ s) × (r.1.out ≡ lent_out c)
+use Rattle.claim.specs.Refused.{Unchanged}
 
 -- a call that carries out `o` where its test passes and is refused where not, with output `f` of the test
 by_test : (s : Sequencer) (k n : ℕ) (b : Bool) (o : Outcome) (f : Bool → List Float) → refused_with (answer_of o.answer) ≡ none

@@ -24,14 +24,14 @@ use Rattle.ledger.specs.BlockSamples.{Span, BlockSum, block_sum, overlay}
 use Rattle.ledger.specs.Ledger.{Ledger, held}
 use Rattle.ledger.specs.Refusals.{first_of, checks, push_checks, edit_checks, refusal, stated_end, edit_end, missing}
 use Rattle.ledger.specs.Refusals as Checks
-use Rattle.ledger.proofs.Refused.{AllPass, all_pass}
+use Rattle.ledger.specs.Refused.{AllPass}
+use Rattle.ledger.proofs.Refused.{all_pass}
 use Rattle.ledger.specs.Steps as Plain
 use Rattle.ledger.specs.Steps.{step, decide, accept, refused_reply, pushed_time, change, advance, in_order, cleared}
-use Rattle.ledger.proofs.Lawful.{Lawful}
+use Rattle.ledger.specs.Lawful.{Lawful}
 use Rattle.ledger.proofs.LedgerMeets.{same_reply}
 use Rattle.ledger.specs.Claim.{SameReply, Lends}
 use Rattle.sequencer.specs.declared.Sequencer.{Sequencer}
-use Rattle.sequencer.specs.declared.Outcome.{Outcome}
 use Rattle.sequencer.specs.Answers.{answer_of, accepts}
 use Rattle.sequencer.specs.Outcomes.{renders, refuses}
 use Rattle.sequencer.specs.Parts.{with_sounding}
@@ -51,9 +51,7 @@ use Rattle.claim.specs.Changing.{related_change}
 use Rattle.claim.specs.RefusalsAgree.{Agrees, spent, push-refused, edit-refused, tick_refused, block_refused, rate-refused}
 use Rattle.claim.specs.SamplesAgree.{related_tick, related_block, related_places}
 use Rattle.claim.specs.EngineCalls.{gives, engine_call}
-
-abbrev pub Keeps : Sequencer × Reply → Plain.Outcome → Type 0
-Keeps a o = Related a.0 o.ledger × SameReply a.1 o.reply
+use Rattle.claim.specs.Steps.{Keeps}
 
 -- ---- a call is refused by both with one number, or carried out by both
 

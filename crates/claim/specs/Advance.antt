@@ -11,7 +11,7 @@ use Rattle.ledger.specs.Ledger.{Ledger}
 use Rattle.ledger.specs.Steps.{with_lists, stays, leaves, advance}
 use Rattle.ledger.proofs.Sums.{number_sum_one, number_sum_numbers, event_sum_one, event_sum_start}
 use Rattle.ledger.proofs.Conservation.{event_sum_stays}
-use Rattle.ledger.proofs.Lawful.{Lawful}
+use Rattle.ledger.specs.Lawful.{Lawful}
 use Rattle.ready.proofs.Waits.{waits-length}
 use Rattle.lists.specs.Holds.{holds-length, holds-none}
 use Rattle.sequencer.specs.declared.Sequencer.{Sequencer}

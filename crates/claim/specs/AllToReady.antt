@@ -16,7 +16,7 @@ use Rattle.ledger.specs.Lists.{insert, insert_all}
 use Rattle.ledger.specs.Ledger.{Ledger}
 use Rattle.ledger.specs.Steps.{everything, set_rate}
 use Rattle.ledger.proofs.Sums.{event_sum_one, event_sum_insert_all}
-use Rattle.ledger.proofs.Lawful.{Lawful}
+use Rattle.ledger.specs.Lawful.{Lawful}
 use Rattle.ready.proofs.Waits.{waits-length}
 use Rattle.lists.specs.Holds.{holds_at, holds-length, holds-none}
 use Rattle.sequencer.specs.declared.Sequencer.{Sequencer}

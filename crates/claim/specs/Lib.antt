@@ -14,3 +14,5 @@ pub mod Passes
 pub mod SamplesAgree
 pub mod EngineCalls
 pub mod CarriedOut
+pub mod Refused
+pub mod Steps

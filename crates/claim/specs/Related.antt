@@ -6,7 +6,7 @@ use Rattle.event.specs.declared.StoredEdit.{StoredEdit}
 use Rattle.event.specs.Blank.{blank}
 use Rattle.ledger.specs.Ledger.{Ledger}
 use Rattle.ledger.specs.Lists.{insert}
-use Rattle.ledger.proofs.Sorted.{Sorted}
+use Rattle.ledger.specs.Sorted.{Sorted}
 use Rattle.ready.proofs.Waits.{waits-push, waits_pop}
 use Rattle.ready.specs.Waits.{Waits}
 use Rattle.lists.specs.EditList.{Edits}

@@ -9,7 +9,7 @@ use Rattle.event.specs.Blank.{blank}
 use Rattle.ledger.specs.Lists.{numbers}
 use Rattle.ledger.specs.Ledger.{Ledger}
 use Rattle.ledger.specs.Steps.{everything, restart}
-use Rattle.ledger.proofs.Lawful.{Lawful}
+use Rattle.ledger.specs.Lawful.{Lawful}
 use Rattle.ready.specs.declared.Ready.{Ready}
 use Rattle.ready.proofs.Waits.{waits-none, waits-map, waits-length}
 use Rattle.ready.specs.Waits.{Waits}

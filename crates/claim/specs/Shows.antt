@@ -3,7 +3,7 @@ use Rattle.std.specs.Prelude.{◌^◌, ◌%◌, ◌≡◌}
 use Rattle.std.proofs.Common.{sym, ap, ◌∙◌}
 use Rattle.ledger.specs.Lists.{place_of}
 use Rattle.ledger.specs.Ledger.{Ledger}
-use Rattle.ledger.proofs.Lawful.{Lawful}
+use Rattle.ledger.specs.Lawful.{Lawful}
 use Rattle.ledger.specs.Claim.{SameState, IndexGivesPlaces}
 use Rattle.ready.proofs.Waits.{waits-length}
 use Rattle.lists.specs.Holds.{holds-length}

@@ -17,7 +17,7 @@ use Rattle.event.specs.Events.{number_of, edited_by}
 use Rattle.event.specs.Blank.{blank}
 use Rattle.ledger.specs.Ledger.{Ledger}
 use Rattle.ledger.specs.Lists.{start, Started, with_edit, edit_of, drop_edit}
-use Rattle.ledger.proofs.Sorted.{Sorted}
+use Rattle.ledger.specs.Sorted.{Sorted}
 use Rattle.ready.proofs.Waits.{waits-length}
 use Rattle.lists.specs.declared.EditMap.{EditMap}
 use Rattle.lists.specs.declared.Found.{Found}

@@ -13,10 +13,12 @@ use Rattle.ledger.specs.Lists.{numbers}
 use Rattle.ledger.specs.Ledger.{create}
 use Rattle.ledger.specs.Numbers.{up_from}
 use Rattle.ledger.specs.Claim.{among, times, Counts, counts_of, SameState, IndexGivesPlaces}
-use Rattle.ledger.proofs.Sums.{event_sum, number_sum, number_sum_append, number_sum_numbers, event_sum_one, event_sum_perm}
-use Rattle.ledger.proofs.Conservation.{by_number}
-use Rattle.ledger.proofs.Partition.{is, times-is}
-use Rattle.ledger.proofs.Lawful.{Lawful}
+use Rattle.ledger.specs.Sums.{event_sum, number_sum}
+use Rattle.ledger.proofs.Sums.{number_sum_append, number_sum_numbers, event_sum_one, event_sum_perm}
+use Rattle.ledger.specs.Conservation.{by_number}
+use Rattle.ledger.specs.Partition.{is}
+use Rattle.ledger.proofs.Partition.{times-is}
+use Rattle.ledger.specs.Lawful.{Lawful}
 use Rattle.desk.specs.Desk.{Message, push, edit, reset, Call, Reply, Desk, pushes_in, next_number, opened, step, run}
 use Rattle.desk.specs.Claim.{DeskView, DeskEngine, calls, engine_after, sent_from, sent_numbers, accepted, DeskClaim}
 use Rattle.desk.specs.Lawful.{DeskLawful}

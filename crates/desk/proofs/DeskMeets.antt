@@ -3,7 +3,8 @@ use Rattle.std.specs.Prelude.{◌^◌, ◌%◌, ◌≡◌, refl}
 use Rattle.std.proofs.Common.{subst}
 use Rattle.ledger.specs.Ledger.{create}
 use Rattle.ledger.specs.Claim.{SameState, IndexGivesPlaces}
-use Rattle.ledger.proofs.LedgerMeets.{view_with, same-state}
+use Rattle.ledger.specs.LedgerMeets.{view_with}
+use Rattle.ledger.proofs.LedgerMeets.{same-state}
 use Rattle.desk.specs.Desk.{Desk, next_number, opened, step}
 use Rattle.desk.specs.Claim.{DeskView, DeskEngine, DeskClaim, sent_from}
 use Rattle.desk.proofs.ClaimByRelation.{desk-claim_by_relation}

@@ -17,13 +17,16 @@ use Rattle.ledger.specs.Ledger.{Ledger, held}
 use Rattle.ledger.specs.Refusals.{Check, refuses, first_of, within, within_end, finite_source, stated_end, edit_end, tick_end, block_end, missing, refusal, checks, push_checks, edit_checks}
 use Rattle.ledger.specs.Steps as Steps
 use Rattle.ledger.specs.Steps.{pushed_time, enter, change, everything, accept, restart}
-use Rattle.ledger.proofs.Refused.{AllPass, all_pass}
+use Rattle.ledger.specs.Refused.{AllPass}
+use Rattle.ledger.proofs.Refused.{all_pass}
 use Rattle.ledger.proofs.Sums.{event_sum_edit, event_sum_one, event_sum_rewound}
-use Rattle.ledger.proofs.Conservation.{four_sum, held_sum_enter, event_sum_everything}
-use Rattle.ledger.proofs.Partition.{is}
+use Rattle.ledger.specs.Conservation.{four_sum}
+use Rattle.ledger.proofs.Conservation.{held_sum_enter, event_sum_everything}
+use Rattle.ledger.specs.Partition.{is}
 use Rattle.ledger.proofs.Limits.{held-is, store_length}
 use Rattle.ledger.proofs.Lawful as Ledgers
-use Rattle.ledger.proofs.Lawful.{Lawful, lengths}
+use Rattle.ledger.specs.Lawful.{Lawful}
+use Rattle.ledger.proofs.Lawful.{lengths}
 use Rattle.desk.specs.FreshEnd.{tick_within, block_within}
 use Rattle.desk.proofs.LetGo.{finished_sum, restarted-sum, returned_few}
 use Rattle.desk.specs.Desk.{Message, push, edit, reset, BackCall, tick, block, rate, Call, back, message_call, back_call, Desk, pushes_in, edits_in, next_number, with_back, send_finished, restarted, reset_of, drain, drained, decide, step}

@@ -10,9 +10,10 @@ use Rattle.ledger.specs.Calls as Calls
 use Rattle.ledger.specs.Ledger.{Ledger, held, create, fresh}
 use Rattle.ledger.specs.Refusals.{first_of, refusal, checks}
 use Rattle.ledger.specs.Steps.{advance, set_rate, accept}
-use Rattle.ledger.proofs.Refused.{AllPass, all_pass}
+use Rattle.ledger.specs.Refused.{AllPass}
+use Rattle.ledger.proofs.Refused.{all_pass}
 use Rattle.ledger.proofs.Lawful as Ledgers
-use Rattle.ledger.proofs.Lawful.{Lawful}
+use Rattle.ledger.specs.Lawful.{Lawful}
 use Rattle.desk.specs.Desk.{Message, push, edit, reset, BackCall, tick, block, rate, Call, front, back, back_call, Desk, pushes_in, edits_in, next_number, with_back, opened, drained, front_checks, desk_refusal, sends, acts, carried_out, decide, step, run}
 use Rattle.desk.specs.Lawful.{own_checks, Passed, DeskLawful, desk_of}
 use Rattle.desk.proofs.Lawful.{not-not, accept_lawful, pushes-first, edits-first, finished_lawful, restarted_lawful, drained_lawful, drained-empty, drained_free}

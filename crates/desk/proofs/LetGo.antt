@@ -7,8 +7,10 @@ use Rattle.event.specs.declared.Event.{Event}
 use Rattle.event.specs.declared.ReplayMode.{ReplayMode}
 use Rattle.event.specs.declared.ReplayMode.TheVariants.{All, None}
 use Rattle.ledger.specs.Lists.{numbers}
-use Rattle.ledger.proofs.Sums.{number_sum, number_sum_append, number_sum_numbers, event_sum, event_sum_append}
-use Rattle.ledger.proofs.Conservation.{by_number, four_sum, four_sum_restart}
+use Rattle.ledger.specs.Sums.{number_sum, event_sum}
+use Rattle.ledger.proofs.Sums.{number_sum_append, number_sum_numbers, event_sum_append}
+use Rattle.ledger.specs.Conservation.{by_number, four_sum}
+use Rattle.ledger.proofs.Conservation.{four_sum_restart}
 use Rattle.desk.specs.Desk.{Desk, send_finished, restarted}
 
 -- ---- from the end

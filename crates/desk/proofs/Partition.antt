@@ -21,10 +21,13 @@ use Rattle.ledger.specs.Steps.{change, accept, advance, set_rate, restart}
 use Rattle.ledger.specs.Numbers.{up_from}
 use Rattle.ledger.specs.Claim as Plain
 use Rattle.ledger.specs.Claim.{among, times}
-use Rattle.ledger.proofs.Sums.{number_sum, number_sum_append, number_sum_numbers, number_sum_one, event_sum_one}
-use Rattle.ledger.proofs.Conservation.{four_sum, accept-adds}
+use Rattle.ledger.specs.Sums.{number_sum}
+use Rattle.ledger.proofs.Sums.{number_sum_append, number_sum_numbers, number_sum_one, event_sum_one}
+use Rattle.ledger.specs.Conservation.{four_sum}
+use Rattle.ledger.proofs.Conservation.{accept-adds}
 use Rattle.ledger.proofs.Partition as Ledgers
-use Rattle.ledger.proofs.Partition.{is, times-is, count_up, once_or_never}
+use Rattle.ledger.specs.Partition.{is}
+use Rattle.ledger.proofs.Partition.{times-is, count_up, once_or_never}
 use Rattle.desk.specs.Desk.{Message, push, edit, reset, BackCall, tick, block, rate, Call, front, back, Desk, pushes_in, next_number, with_back, opened, send_finished, restarted, drain, drained, desk_refusal, Outcome, sends, acts, carried_out, decide, step, run}
 use Rattle.desk.specs.Claim.{accepted_of, accepted}
 use Rattle.desk.proofs.LetGo.{finished_sum, restarted-sum}

@@ -1,11 +1,9 @@
 -- The claim can be met: the desk's ledger itself, taken as an engine, meets it. Assumes nothing.
-use Rattle.std.specs.Prelude.{◌^◌, ◌%◌, ◌≡◌, refl}
-use Rattle.std.proofs.Common.{subst}
+use Rattle.std.specs.Prelude.{◌^◌, ◌%◌}
 use Rattle.ledger.specs.Ledger.{create}
-use Rattle.ledger.specs.Claim.{SameState, IndexGivesPlaces}
-use Rattle.ledger.proofs.LedgerMeets.{view_with, same-state}
+use Rattle.ledger.specs.LedgerMeets.{view_with}
 use Rattle.desk.specs.Desk.{Desk, next_number, opened, step}
-use Rattle.desk.specs.Claim.{DeskView, DeskEngine, DeskClaim, sent_from}
+use Rattle.desk.specs.Claim.{DeskView, DeskEngine, sent_from}
 
 abbrev pub desk_view : Desk → DeskView
 desk_view d = record { back = view_with (next_number d % 2 ^ 64) d.back; queued = sent_from d.back.next d.queued; returned = d.returned }

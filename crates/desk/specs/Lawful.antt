@@ -1,31 +1,14 @@
 -- The laws of the desk: handling a message keeps them, and so does draining the queue (that every call does: `proofs.LawfulCalls`). So no queued message is refused when it is handled, and no back call is refused after draining that was not before. Assumes nothing.
-use Rattle.std.specs.Prelude.{ℕ, suc, ◌+◌, ◌*◌, ◌^◌, ◌≤◌, ◌<◌, ◌≡◌, refl, Bool, true, false, not, ◌&&◌, ◌||◌, cond, List, [], ◌∷◌, ◌++◌, map, reverse, ◌⊎◌, T, leb, eqb, length, Float}
-use Rattle.std.proofs.Common.{sym, ap, ap₂, ◌∙◌, subst, inl, inr, ⊎_elim, arith, leb→le, nltb→le}
-use mathlib.Core.List.Memᴰ
-use Rattle.std.proofs.Math.Option.{Option, none}
-use Rattle.std.proofs.Math.Dec.{not_T}
-use Rattle.std.specs.Float.Ieee.{lt, le, eq}
+use Rattle.std.specs.Prelude.{ℕ, ◌+◌, ◌^◌, ◌≤◌, ◌≡◌, not, ◌&&◌, ◌||◌, List, [], ◌∷◌, ◌⊎◌, T, length}
 use Rattle.std.specs.Float.Ieee.Scale.{finite}
-use Rattle.event.specs.declared.Edit.{Edit}
-use Rattle.event.specs.declared.ReplayMode.{ReplayMode}
-use Rattle.event.specs.declared.ReplayMode.TheVariants.{All, None}
-use Rattle.event.specs.Events.{new_event, rewound}
-use Rattle.floats.specs.Arithmetic.{◌+ᵈ◌, ◌-ᵈ◌, ◌×ᵈ◌, ◌÷ᵈ◌, ◌<ᶠ◌, ◌≤ᶠ◌, zeroᶠ, oneᶠ, whole}
+use Rattle.floats.specs.Arithmetic.{◌-ᵈ◌, ◌÷ᵈ◌, ◌<ᶠ◌, ◌≤ᶠ◌, zeroᶠ, oneᶠ, whole}
 use Rattle.ledger.specs.Calls as Calls
-use Rattle.ledger.specs.Lists.{numbers, has, edit_of, edit_in}
 use Rattle.ledger.specs.Ledger.{Ledger, held}
-use Rattle.ledger.specs.Refusals.{Check, refuses, first_of, within, within_end, finite_source, stated_end, edit_end, tick_end, block_end, missing, refusal, checks, push_checks, edit_checks}
-use Rattle.ledger.specs.Steps as Steps
-use Rattle.ledger.specs.Steps.{pushed_time, enter, change, everything, accept, restart}
-use Rattle.ledger.proofs.Refused.{AllPass, all_pass}
-use Rattle.ledger.proofs.Sums.{event_sum_edit, event_sum_one, event_sum_rewound}
-use Rattle.ledger.proofs.Conservation.{four_sum, held_sum_enter, event_sum_everything}
-use Rattle.ledger.proofs.Partition.{is}
-use Rattle.ledger.proofs.Limits.{held-is, store_length}
-use Rattle.ledger.proofs.Lawful as Ledgers
-use Rattle.ledger.proofs.Lawful.{Lawful, lengths}
-use Rattle.desk.specs.FreshEnd.{tick_within, block_within}
-use Rattle.desk.specs.Desk.{Message, push, edit, reset, BackCall, tick, block, rate, Call, back, message_call, back_call, Desk, pushes_in, edits_in, next_number, with_back, send_finished, restarted, reset_of, drain, drained, decide, step}
+use Rattle.ledger.specs.Refusals.{Check, refuses, within, within_end, finite_source, stated_end}
+use Rattle.ledger.specs.Steps.{accept}
+use Rattle.ledger.specs.Refused.{AllPass}
+use Rattle.ledger.specs.Lawful.{Lawful}
+use Rattle.desk.specs.Desk.{Message, push, edit, reset, Desk, pushes_in, edits_in, next_number}
 
 -- ---- what a queued message has passed: a push 3 to 5 and 18, an edit 8
 

@@ -7,13 +7,12 @@ use Rattle.std.proofs.Math.Option.{Option, none}
 use Rattle.event.specs.declared.MixOrder.{MixOrder}
 use Rattle.event.specs.declared.ReplayMode.{ReplayMode}
 use Rattle.event.specs.declared.Placings.{Placings}
-use Rattle.event.specs.Placings.{no_placings}
 use Rattle.ledger.specs.Calls as Calls
 use Rattle.ledger.specs.Ledger.{Ledger}
 use Rattle.ledger.specs.Refusals.{first_of, checks, refusal}
 use Rattle.ledger.specs.Steps as Steps
 use Rattle.ledger.specs.Steps.{accept, advance, block_places}
-use Rattle.ledger.proofs.Lawful.{Lawful}
+use Rattle.ledger.specs.Lawful.{Lawful}
 use Rattle.refusals.specs.Refusals.{tick_refusal, process_refusal, rate_refusal}
 use Rattle.sequencer.specs.declared.Sequencer.{Sequencer}
 use Rattle.sequencer.specs.Answers as Engine
@@ -26,6 +25,7 @@ use Rattle.claim.specs.AllToReady.{related_rate}
 use Rattle.claim.specs.RefusalsAgree.{Agrees, tick_refused, block_refused, rate-refused}
 use Rattle.claim.specs.EngineCalls as EngineClaim
 use Rattle.claim.proofs.Steps as Claim
+use Rattle.claim.specs.Steps as Engines
 use Rattle.desk.specs.Desk as Plain
 use Rattle.desk.specs.Desk.{tick, block, rate, reset, back, Reply, done, rendered, Desk, with_back, send_finished, desk_refusal, acts, carried_out, decide, step}
 use Rattle.desk.specs.Lawful.{DeskLawful}
@@ -41,19 +41,9 @@ use Rattle.desk_claim.proofs.Related.{plain_of, empty_related}
 use Rattle.desk_claim.proofs.LettingGo.{past_related, restarted_related}
 use Rattle.desk_claim.proofs.Draining.{drained_related}
 use Rattle.desk_claim.specs.EngineCalls.{gives}
-use Rattle.desk_claim.proofs.Refusals.{Keeps, by_refusal}
-
--- ---- the engine, of a call that no refusal names
-
--- the places that an answer tells
-abbrev places_in : Calls.Answer → Placings
-places_in (Calls.number k) = no_placings
-places_in Calls.applied = no_placings
-places_in Calls.past = no_placings
-places_in Calls.stored = no_placings
-places_in Calls.done = no_placings
-places_in (Calls.rendered c) = c
-places_in (Calls.refused k) = no_placings
+use Rattle.desk_claim.specs.Refusals.{Keeps}
+use Rattle.desk_claim.proofs.Refusals.{by_refusal}
+use Rattle.desk_claim.specs.Backs.{places_in}
 
 module _ (s : Sequencer) (l : Ledger) (w : Lawful l) (r : Related s l) where
   tick_carried : (order : MixOrder) (pool out : List Float) → refusal l (Calls.tick order pool out) ≡ none
@@ -63,7 +53,7 @@ module _ (s : Sequencer) (l : Ledger) (w : Lawful l) (r : Related s l) where
       let c = Calls.tick order pool out in
       let n = tick_refusal (length out) s.outputs s.time s.sample_duration in
       let P : ℕ → Option ℕ → Type 0 = λ m o.
-      Claim.Keeps (EngineClaim.gives (cond (eqb m 0) (Engine.accepts (rendered_tick order pool s)) (Outcomes.refuses s m)) (cond (eqb m 0) (rendered_tick_out order pool s out) out)) (Steps.decide o l c) in
+      Engines.Keeps (EngineClaim.gives (cond (eqb m 0) (Engine.accepts (rendered_tick order pool s)) (Outcomes.refuses s m)) (cond (eqb m 0) (rendered_tick_out order pool s out) out)) (Steps.decide o l c) in
       let z : n ≡ 0 = subst (Agrees n) h (tick_refused l order pool out s.outputs s.time s.sample_duration r.plain.4 r.plain.0 r.plain.3) in
       let k : P 0 none = subst (P 0) h (subst (λ (m : ℕ). P m (refusal l c)) z (Claim.keep_tick s l order pool out w r)) in
       (k.0, k.1.out)
@@ -75,7 +65,7 @@ module _ (s : Sequencer) (l : Ledger) (w : Lawful l) (r : Related s l) where
       let c = Calls.block order size pool out none in
       let n = process_refusal size (length out) s.outputs s.time s.sample_duration in
       let P : ℕ → Option ℕ → Type 0 = λ m o.
-      Claim.Keeps (EngineClaim.gives (cond (eqb m 0) (Outcomes.renders (rendered_block order pool size s) (rendered_places order size s)) (Outcomes.refuses s m)) (cond (eqb m 0) (rendered_block_out order pool size s out) out)) (Steps.decide o l c) in
+      Engines.Keeps (EngineClaim.gives (cond (eqb m 0) (Outcomes.renders (rendered_block order pool size s) (rendered_places order size s)) (Outcomes.refuses s m)) (cond (eqb m 0) (rendered_block_out order pool size s out) out)) (Steps.decide o l c) in
       let z : n ≡ 0 = subst (Agrees n) h (block_refused l order size pool out s.outputs s.time s.sample_duration r.plain.4 r.plain.0 r.plain.3) in
       let k : P 0 none = subst (P 0) h (subst (λ (m : ℕ). P m (refusal l c)) z (Claim.keep-block s l order size pool out w r)) in
       (k.0, k.1.out, ap places_in k.1.answer)

@@ -32,7 +32,8 @@ use Rattle.desk_claim.specs.ReturnQueue.{returns-emptied}
 use Rattle.desk_claim.specs.Related.{message_of, messages_from, DeskRelated}
 use Rattle.desk_claim.proofs.Related.{messages_length, messages_last}
 use Rattle.desk_claim.specs.EngineCalls.{gives}
-use Rattle.desk_claim.proofs.Refusals.{Keeps, by_refusal, push-agrees, edit-agrees, reset-agrees}
+use Rattle.desk_claim.specs.Refusals.{Keeps}
+use Rattle.desk_claim.proofs.Refusals.{by_refusal, push-agrees, edit-agrees, reset-agrees}
 
 module _ (d : SequencerBackend) (D : Desk) (w : DeskLawful D) (r : DeskRelated d D) where
   -- the desk with a message queued and k as its next number

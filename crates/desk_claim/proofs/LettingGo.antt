@@ -7,7 +7,7 @@ use Rattle.event.specs.declared.ReplayMode.{ReplayMode}
 use Rattle.event.specs.declared.ReplayMode.TheVariants.{All, None}
 use Rattle.ledger.specs.Lists.{numbers}
 use Rattle.ledger.specs.Steps.{restart}
-use Rattle.ledger.proofs.Lawful.{Lawful}
+use Rattle.ledger.specs.Lawful.{Lawful}
 use Rattle.lists.specs.Holds.{holds-length, holds-none}
 use Rattle.sequencer.specs.Moves.{heap_of, released_past}
 use Rattle.sequencer.specs.Resets.{reset_by}
@@ -21,6 +21,7 @@ use Rattle.realseq.specs.Handling.{past_sent_by, returned_by, restarted}
 use Rattle.desk_claim.specs.ReturnQueue.{returns_to, returns-list, returns-heap, three-sent}
 use Rattle.desk_claim.specs.Related.{DeskRelated}
 use Rattle.desk_claim.proofs.Related.{plain_of, empty_related}
+use Rattle.desk_claim.specs.LettingGo.{restarts}
 
 -- ---- how many are let go: from either end it is as many
 
@@ -65,11 +66,6 @@ past_related None d D w r =
       queue = r.queue;
       returns = returns-list s.past s.past_len l.finished d.returned D.returned h.lists.3 r.returns;
     }
-
--- ---- a reset acts
-
-abbrev restarts : ReplayMode → SequencerBackend → SequencerBackend
-restarts m d = record { sequencer = reset_by d.sequencer m; messages = d.messages; returned = returned_by m d.sequencer d.returned }
 
 restarted_by : (m : ReplayMode) (d : SequencerBackend) (D : Desk) → D.queued ≡ [] → Lawful D.back → DeskRelated d D → Related (reset_by d.sequencer m) (restart D.back m)
     → DeskRelated (restarts m d) (Plain.restarted m D)

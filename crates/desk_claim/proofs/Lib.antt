@@ -1,10 +1,10 @@
 -- Lemmas, and the theorems that rest on definitions of specs/.
-pub mod Refusals
-pub mod Refused
-pub mod Messages
-pub mod LettingGo
 pub mod Draining
-pub mod Fronts
-pub mod Backs
 pub mod Theorem
 pub mod Related
+pub mod Backs
+pub mod Fronts
+pub mod LettingGo
+pub mod Messages
+pub mod Refusals
+pub mod Refused

@@ -10,10 +10,8 @@ use Rattle.event.specs.declared.Source.{Source}
 use Rattle.floats.specs.Arithmetic.{◌<ᶠ◌}
 use Rattle.event.specs.Events.{new_event}
 use Rattle.ledger.specs.Calls.{PushKind, absolute, relative, by_duration, EditKind, absolute_end, relative_end}
-use Rattle.ledger.specs.Lists.{has}
 use Rattle.ledger.specs.Ledger.{Ledger, held}
 use Rattle.ledger.specs.Refusals.{stated_end, edit_end}
-use Rattle.ledger.specs.Steps as Steps
 use Rattle.ledger.specs.Steps.{pushed_time, enter, accept}
 use Rattle.lists.specs.declared.Found.{Found}
 use Rattle.lists.specs.declared.Found.TheVariants.{At, Nothing}
@@ -38,6 +36,7 @@ use Rattle.realseq.specs.Handling.{later, acted, stepped}
 use Rattle.realseq.specs.Fronts.{push_message, edit_message}
 use Rattle.desk_claim.specs.Ring.{Queued, queued_first, queued_rest}
 use Rattle.desk_claim.specs.Related.{message_of, messages_from, Backed, DeskRelated}
+use Rattle.desk_claim.specs.Messages.{changed_ledger}
 
 -- ---- an engine with another next number acts alike
 
@@ -109,9 +108,6 @@ acts-edit : (kind : EditKind) (k : EventId) (end fade_out : Float) (s : Sequence
 unfolding acted edit_end
 acts-edit absolute_end k end fade_out s = refl
 acts-edit relative_end k end fade_out s = refl
-
-abbrev changed_ledger : Ledger → EventId → Edit → Ledger
-changed_ledger l k d = (Steps.change l k.0 d (has k.0 l.sounding) (d.end_time <ᶠ l.threshold)).ledger
 
 backed_change : (s : Sequencer) (l : Ledger) (k : EventId) (d : Edit) → length l.edits < 256 → (changed_ledger l k d).next ≡ l.next → Backed s l → Backed (changed s k d).sequencer (changed_ledger l k d)
 backed_change s l k d room h r =

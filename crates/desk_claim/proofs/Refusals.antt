@@ -1,5 +1,5 @@
 -- The desk's refusals are the desk ledger's: of the front's calls with what is queued, then 13. Assumes nothing.
-use Prim.Native.Nat.{ℕ, ◌+◌, ◌^◌, ◌<◌, min}
+use Prim.Native.Nat.{ℕ, ◌+◌, ◌^◌, min}
 use Rattle.std.specs.Prelude.{◌≡◌, refl, Bool, true, false, ◌&&◌, ◌||◌, cond, [], ◌∷◌, leb, eqb, Float, length}
 use Rattle.std.proofs.Common.{sym, ap, ◌∙◌, arith, eq-eqb, ne_eqb}
 use Rattle.std.proofs.Math.Path.{subst}
@@ -16,7 +16,7 @@ use Rattle.ledger.specs.Ledger.{held}
 use Rattle.ledger.specs.Refusals.{refuses, first_of, within, within_end, finite_source, stated_end}
 use Rattle.refusals.specs.Refusals.{push_refusal, edit_limits}
 use Rattle.claim.specs.RefusalsAgree.{Agrees, in_order, agrees, spent}
-use Rattle.desk.specs.Desk.{push, edit, reset, Call, Reply, refused, Desk, Outcome, pushes_in, edits_in, next_number, front_checks, desk_refusal, carried_out, lent_out, decide, step}
+use Rattle.desk.specs.Desk.{push, edit, reset, Call, Reply, Desk, Outcome, pushes_in, edits_in, next_number, front_checks, desk_refusal, carried_out, decide, step}
 use Rattle.desk.specs.Lawful.{DeskLawful}
 use Rattle.realseq.specs.declared.SequencerBackend.{SequencerBackend}
 use Rattle.realseq.specs.Queues.{tallied}
@@ -24,14 +24,7 @@ use Rattle.realseq.specs.Fronts.{push_refused, edit_refused}
 use Rattle.desk_claim.specs.Ring.{queued_count, queued_tally}
 use Rattle.desk_claim.specs.Related.{DeskRelated}
 use Rattle.desk_claim.proofs.Related.{messages_length, pushes-tally, edits-tally}
-
--- ---- a call is refused by both with one number, or carried out by both
-
-abbrev pub Keeps : SequencerBackend × Reply → Outcome → Type 0
-Keeps a o = DeskRelated a.0 o.desk × (a.1 ≡ o.reply)
-
-abbrev pub refused_reply : ℕ → Call → Reply
-refused_reply k c = record { answer = refused k; out = lent_out c }
+use Rattle.desk_claim.specs.Refusals.{Keeps, refused_reply, of_push}
 
 -- X is the engine's call, by whether its number of a refusal is 0
 pub by_refusal : (d : SequencerBackend) (D : Desk) (c : Call) (n : ℕ) (X : Bool → SequencerBackend × Reply) → DeskRelated d D → Agrees n (desk_refusal D c)
@@ -45,11 +38,6 @@ by_refusal d D c n X r h f t = go (desk_refusal D c) refl h
         let turned_down : Outcome = record { desk = D; reply = refused_reply k c } in
         subst (λ (b : Bool). Keeps (X b) turned_down) (sym (ne_eqb n 0 (λ z. omega (arith, h.0, h.1))))
         (subst (λ (a : SequencerBackend × Reply). Keeps a turned_down) (sym f) (r, ap (λ (m : ℕ). refused_reply m c) h.0))
-
--- ---- the engine's tests, one after another
-
-abbrev of_push : (a b c g h n : Bool) → ℕ
-of_push a b c g h n = cond a 3 (cond b 4 (cond c 5 (cond g 18 (cond h 6 (cond n 7 0)))))
 
 push_order : (a b c g h n f : Bool) → cond (eqb (of_push a b c g h n) 0) (cond f 13 0) (of_push a b c g h n)
     ≡ in_order (refuses 3 a ∷ refuses 4 b ∷ refuses 5 c ∷ refuses 18 g ∷ refuses 6 h ∷ refuses 7 n ∷ refuses 13 f ∷ [])

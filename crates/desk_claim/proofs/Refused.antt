@@ -1,9 +1,8 @@
 -- A refused call of the desk changes nothing, on every desk value, reached or not: the desk comes back as it was, queues and all, and so does what was lent. Assumes nothing.
 use Rattle.std.specs.Prelude.{ℕ, Bool, true, false, cond, ◌≡◌, refl, List, [], leb, eqb, Float, length}
 use Rattle.std.proofs.Common.{sym, ap, ◌∙◌, arith}
-use Rattle.std.proofs.Math.Option.{Option, none, some}
+use Rattle.std.proofs.Math.Option.{none, some}
 use Rattle.event.specs.declared.Edit.{Edit}
-use Rattle.event.specs.declared.EventId.{EventId}
 use Rattle.event.specs.Events.{new_event}
 use Rattle.floats.specs.Arithmetic.{◌-ᵈ◌}
 use Rattle.desk.specs.Relative.{is_relative, end_relative}
@@ -11,27 +10,16 @@ use Rattle.ledger.specs.Refusals.{stated_end}
 use Rattle.refusals.specs.Refusals.{rate_refusal}
 use Rattle.sequencer.specs.Rendering.{rendered_tick, rendered_tick_out, rendered_block, rendered_places, rendered_block_out}
 use Rattle.sequencer.specs.Resets.{re_rated}
-use Rattle.desk.specs.Desk as Desk
-use Rattle.desk.specs.Desk.{push, edit, reset, tick, block, rate, Call, front, back, number, queued, done, rendered, refused, Reply, lent_out}
+use Rattle.desk.specs.Desk.{push, edit, reset, tick, block, rate, Call, front, back, number, queued, refused}
 use Rattle.realseq.specs.declared.SequencerBackend.{SequencerBackend}
 use Rattle.realseq.specs.declared.Outcome.{Outcome}
 use Rattle.realseq.specs.declared.queues.Message.TheVariants.{Reset}
 use Rattle.realseq.specs.Answers.{said, answer_of, accepts, renders, refuses}
 use Rattle.realseq.specs.Handling.{past_sent, drained}
-use Rattle.realseq.specs.Fronts.{queued_with, numbered, push_refused, push_message, sends_push, pushes, edit_refused, edit_message, sends_edit, edits, resets}
+use Rattle.realseq.specs.Fronts.{queued_with, numbered, push_refused, push_message, sends_push, pushes, edit_refused, edit_message, sends_edit, resets}
 use Rattle.realseq.specs.Backs.{with_engine, tick_no, ticks, tick_outs, block_no, blocks, block_outs, rates}
 use Rattle.desk_claim.specs.EngineCalls.{gives, desk_call}
-
--- what a refused call gives back
-abbrev pub Unchanged : SequencerBackend → Call → SequencerBackend × Reply → Type 0
-Unchanged d c r = (r.0 ≡ d) × (r.1.out ≡ lent_out c)
-
-abbrev refused_with : Desk.Answer → Option ℕ
-refused_with (number k) = none
-refused_with queued = none
-refused_with done = none
-refused_with (rendered c) = none
-refused_with (refused k) = some k
+use Rattle.desk_claim.specs.Refused.{Unchanged, refused_with}
 
 never : {A : Type 0} (k : ℕ) → some k ≡ none → A
 never k z = absurd (let w : ◌≡◌ {A = ℕ} 0 1 = cc in omega arith)

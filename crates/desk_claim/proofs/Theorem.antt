@@ -21,7 +21,7 @@ use Rattle.desk_claim.specs.Related.{shown, DeskRelated}
 use Rattle.desk_claim.proofs.Related.{messages_shown, opened_related}
 use Rattle.desk_claim.specs.EngineCalls.{desk_new, desk_call, desk_view, desk_engine}
 use Rattle.desk_claim.specs.CarriedOut.{after, Shows, Does}
-use Rattle.desk_claim.proofs.Refusals.{Keeps}
+use Rattle.desk_claim.specs.Refusals.{Keeps}
 use Rattle.desk_claim.proofs.Fronts.{keep-push, keep-edit, keep-reset}
 use Rattle.desk_claim.proofs.Backs.{keep_tick, keep-block, keep-rate, keep-restart}
 

@@ -3,3 +3,8 @@ pub mod ReturnQueue
 pub mod Related
 pub mod EngineCalls
 pub mod CarriedOut
+pub mod Backs
+pub mod LettingGo
+pub mod Messages
+pub mod Refusals
+pub mod Refused

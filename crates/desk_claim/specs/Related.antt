@@ -1,9 +1,5 @@
 -- The relation between the desk and the desk ledger: the engine up to its next number, that number, and both queues. Assumes nothing.
-use Rattle.std.specs.Prelude.{◌≡◌, refl, Bool, true, false, cond, List, [], ◌∷◌, ◌++◌, map, ℕ, suc, ◌+◌, ◌^◌, ◌%◌, eqb, length}
-use Rattle.std.proofs.Common.{sym, ap, ◌∙◌, subst, arith}
-use Rattle.event.specs.declared.Edit.{Edit}
-use Rattle.event.specs.declared.Event.{Event}
-use Rattle.event.specs.declared.EventId.{EventId}
+use Rattle.std.specs.Prelude.{◌≡◌, true, false, List, [], ◌∷◌, ℕ, ◌+◌, ◌^◌, ◌%◌}
 use Rattle.event.specs.Events.{new_event}
 use Rattle.ledger.specs.Ledger.{Ledger}
 use Rattle.ledger.specs.Refusals.{stated_end}
@@ -11,19 +7,15 @@ use Rattle.sequencer.specs.declared.Sequencer.{Sequencer}
 use Rattle.sequencer.specs.Parts.{with_next}
 use Rattle.claim.specs.Related.{Related}
 use Rattle.desk.specs.Desk as Plain
-use Rattle.desk.specs.Desk.{push, edit, reset, Desk, pushes_in, edits_in, next_number}
-use Rattle.desk.specs.Claim.{Sent, event, change, restart, sent_from}
+use Rattle.desk.specs.Desk.{push, edit, reset, Desk, pushes_in, next_number}
+use Rattle.desk.specs.Claim.{Sent, event, change, restart}
 use Rattle.desk.specs.Relative.{is_relative, end_relative}
-use Rattle.desk.specs.Lawful.{desk_of}
-use Rattle.desk.proofs.Lawful.{pushes-first, edits-first}
 use Rattle.realseq.specs.declared.SequencerBackend.{SequencerBackend}
 use Rattle.realseq.specs.declared.queues.Message.{Message}
 use Rattle.realseq.specs.declared.queues.Message.TheVariants.{Reset, Push, PushRelative, Edit as Amend, EditRelative}
-use Rattle.realseq.specs.declared.queues.Returned.{Returned}
-use Rattle.realseq.specs.Queues.{kind_of, counted, opened}
 use Rattle.realseq.specs.Fronts.{push_message, edit_message}
-use Rattle.desk_claim.specs.Ring.{Queued, queued_none, tally_of}
-use Rattle.desk_claim.specs.ReturnQueue.{Returns, returns-none}
+use Rattle.desk_claim.specs.Ring.{Queued}
+use Rattle.desk_claim.specs.ReturnQueue.{Returns}
 
 -- ---- messages: as the desk ledger queues them, as the engine's desk does, and as the claim shows them
 

@@ -7,7 +7,7 @@ use Rattle.event.specs.declared.Event.{Event}
 use Rattle.event.specs.declared.EventId.{EventId}
 use Rattle.event.specs.Blank.{blank}
 use Rattle.ledger.specs.Lists.{numbers}
-use Rattle.ledger.proofs.Sorted.{Sorted}
+use Rattle.ledger.specs.Sorted.{Sorted}
 use Rattle.ready.specs.declared.Ready.{Ready}
 use Rattle.ready.proofs.Waits.{waits_pop, waits-length}
 use Rattle.ready.specs.Waits.{Waits}

@@ -7,7 +7,7 @@ use Rattle.event.specs.declared.ReplayMode.TheVariants.{All, None}
 use Rattle.event.specs.declared.Source.TheVariants.{Held, Ramp, Clip}
 use Rattle.event.specs.declared.Fade.TheVariants.{Power, Smooth}
 use Rattle.event.specs.Events.{earlier, edited_by, rewound}
-use Rattle.event.proofs.StartsFirst.{start_bits}
+use Rattle.event.specs.StartsFirst.{start_bits}
 use Rattle.event.specs.Fades.{curve}
 use Rattle.event.specs.Numbers.{mode_number, curve_number, source_number, first_word, second_word}
 use Rattle.event.specs.Sources.{made, steps, at_start, advanced, next_samples, advanced_by}

@@ -1,3 +1,3 @@
 -- Lemmas, and the theorems that rest on definitions of specs/.
-pub mod StartsFirst
 pub mod Cases
+pub mod StartsFirst

@@ -1,38 +1,17 @@
 -- Document 02, Paper 2: "the comparison looks at the starts first and opens the event numbers only when the starts are equal in bits. .. a law says that numbers never change the answer between starts of
 -- different bits." Told of `earlier`, the comparison of the waiting heap, for starts that an f64 holds; the logic's one NaN has one pattern. Assumes nothing.
-use Rattle.std.specs.Prelude.{◌≡◌, ℕ, Bool, true, false, cond, not, ◌&&◌, ◌||◌, T, ◌≢◌, ◌↔◌, from_bits, nat_lt, to_bits, refl, Float}
+use Rattle.std.specs.Prelude.{◌≡◌, ℕ, Bool, true, false, cond, not, ◌&&◌, ◌||◌, ◌≢◌, ◌↔◌, from_bits, nat_lt, to_bits, refl, Float}
 use Rattle.std.proofs.Common.{sym, ap, ◌∙◌}
 use Rattle.std.proofs.lemmas.Bool.{false≢true}
 use Rattle.std.specs.Float.{binary64}
-use Rattle.std.specs.Float.Ieee.{fits}
 use Rattle.std.specs.Float.Ieee.Bits.{of_bits-to_bits}
 use Rattle.floats.specs.Floats.{total_less, sooner}
 use Rattle.floats.specs.Ordered.{ordered}
 use Rattle.floats.specs.TotalOrder.{total_less_irreflexive, total_less_connected, ordered_equal}
-use Rattle.floats.specs.declared.Order.{Order}
 use Rattle.floats.specs.declared.Order.TheVariants.{Less, Equal, Greater}
 use Rattle.event.specs.declared.Event.{Event}
 use Rattle.event.specs.Events.{earlier, number_of}
-
--- the bits of an event's start, and that it is an f64
-abbrev pub start_bits : Event → ℕ
-start_bits e = to_bits binary64 e.start_time
-
-abbrev pub Starts : Event → Type 0
-Starts e = T (fits binary64 e.start_time)
-
--- the event under another number
-abbrev pub numbered : ℕ → Event → Event
-numbered k e = record {
-  start_time = e.start_time;
-  end_time = e.end_time;
-  fade_in = e.fade_in;
-  fade_out = e.fade_out;
-  fade_ease = e.fade_ease;
-  unit = e.unit;
-  gain = e.gain;
-  id = record { 0 = k };
-}
+use Rattle.event.specs.StartsFirst.{start_bits, Starts, numbered, is_equal}
 
 -- between starts of different bits the starts decide ..
 pub starts-decide : (a b : Event) → Starts a → Starts b → start_bits a ≢ start_bits b → earlier a b ≡ total_less a.start_time b.start_time
@@ -51,12 +30,6 @@ same_start a b f g q = sym (of_bits-to_bits binary64 a.start_time f) ∙ ap (fro
 pub numbers-decide : (a b : Event) → Starts a → Starts b → start_bits a ≡ start_bits b → earlier a b ≡ nat_lt (number_of a) (number_of b)
 unfolding sooner
 numbers-decide a b f g q = rw (same_start a b f g q, total_less_irreflexive) refl
-
--- `precedes` opens the numbers where `total_cmp` answers Equal, which it does where the bits are equal and nowhere else
-abbrev is_equal : Order → Bool
-is_equal Less = false
-is_equal Equal = true
-is_equal Greater = false
 
 pub opened : (a b : Event) → Starts a → Starts b → (ordered a.start_time b.start_time ≡ Equal) ↔ (start_bits a ≡ start_bits b)
 unfolding ordered

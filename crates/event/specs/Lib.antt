@@ -7,3 +7,4 @@ pub mod Blank
 pub mod Numbers
 pub mod Placings
 pub mod PlacingCounts
+pub mod StartsFirst

@@ -1,25 +1,18 @@
 -- The two ends of a phase narrow((x - a) / (b - a)), for all floats with a < b: from b on it is not below 1, and up to a it is not above 0. Overflow, infinities, both zeros and values that no format holds are
 -- included; where the phase is a NaN it is neither. What makes it so is one law, that rounding keeps the order of fractions (`lib.Ieee.Order.round_mono`): of the differences, of the quotient and of what it is
 -- narrowed to. Assumes nothing.
-use Rattle.std.specs.Prelude.{◌≡◌, ℕ, zero, suc, ◌+◌, ◌-◌, ◌*◌, ◌^◌, ◌<◌, ◌≤◌, Bool, true, false, cond, not, ◌&&◌, ◌||◌, T, ◌⊎◌, ℤ, pos, ◌==◌, nat_lt, refl}
-use Rattle.std.proofs.Common.{sym, ap, ◌∙◌, subst, inl, inr, true≢false, le_of_lt, le_of_eq, le_antisymm, mul-pos, mul-le-mul_right, mul-lt-mul_of_pos_right, le_of_mul-le-mul_right, zero-mul, sub-eq-zero_of_le, eq-zero-or-pos, lt_irrefl, arith, ltb→lt, lt→ltb, nltb→le, eqb→eq, pow_pos}
+use Rattle.std.specs.Prelude.{◌≡◌, ℕ, zero, suc, ◌+◌, ◌-◌, ◌*◌, ◌^◌, ◌<◌, ◌≤◌, Bool, true, false, cond, not, ◌&&◌, ◌||◌, T, ◌⊎◌, pos, ◌==◌, nat_lt, refl}
+use Rattle.std.proofs.Common.{sym, ap, ◌∙◌, subst, inl, inr, true≢false, le_of_lt, le_of_eq, mul-pos, mul-le-mul_right, le_of_mul-le-mul_right, zero-mul, sub-eq-zero_of_le, eq-zero-or-pos, lt_irrefl, arith, ltb→lt, nltb→le, eqb→eq, pow_pos}
 use Rattle.std.proofs.lemmas.Bool.{false≢true}
 use Rattle.std.proofs.Math.Arith.{le→nltb}
-use lib.Ieee.{Float, nan, inf, fin, Format, binary32, binary64, prec, emax, low, up, down, size, odd, units, round, sum, add, sub, neg, div, lt, le, eq, below, level}
+use lib.Ieee.{Float, nan, inf, fin, Format, binary32, binary64, prec, emax, low, up, down, odd, units, round, sum, add, sub, neg, div, lt, le, eq, below, level}
 use Rattle.std.specs.Float.Ieee.Fits.{up_pos, down_pos, round_is, and_l, and_r}
 use Rattle.std.specs.Float.Ieee.Bits.{is_true, is_false}
 use lib.Ieee.Order.{kept, drop, round_mono}
 use Rattle.std.specs.Float.Ieee.Scale.{round_same}
 use Rattle.floats.specs.Arithmetic.{zeroᶠ, oneᶠ}
 use Rattle.floats.specs.Floats.{narrowed}
-
--- ---- the sign of what is rounded
-
--- no NaN, and of the sign s
-abbrev Signed : Bool → Float → Type 0
-Signed s nan = ⊥
-Signed s (inf t) = t ≡ s
-Signed s (fin t m e) = t ≡ s
+use Rattle.floats.specs.Phases.{Signed, Low, gap, Above, High}
 
 odd_signed : (d : ℕ) (s : Bool) (q k l : ℕ) → Signed s (odd d s q k l)
 unfolding odd
@@ -57,14 +50,6 @@ at_least a b t = elim (or_split (nat_lt b a) (a == b && true) t) [ inl u ↦ le_
 
 above_zero : (n : ℕ) → T (not (n == 0)) → 0 < n
 above_zero n h = elim (eq-zero-or-pos n) [ inl z ↦ absurd (subst (λ (k : ℕ). T (not (k == 0))) z h) | inr p ↦ p ]
-
--- ---- up to a: what is not above 0
-
--- a NaN, negative, or a zero
-abbrev Low : Float → Type 0
-Low nan = Unit {0}
-Low (inf s) = s ≡ true
-Low (fin s m e) = (s ≡ true) ⊎ (m ≡ 0)
 
 low_signed : (v : Float) → Signed true v → Low v
 low_signed nan h = tt
@@ -155,21 +140,6 @@ low_difference (fin s m e) nan h = absurd h
 low_difference (fin s m e) (inf true) h = absurd h
 low_difference (fin s m e) (inf false) h = refl
 low_difference (fin s m e) (fin t n d) h = low_sum s (m * up e * down d) t (n * up d * down e) (down e * down d) (mul-pos (down_pos e) (down_pos d)) h
-
--- ---- differences that grow
-
--- how far ±X lies above ±A, where it is not below it
-abbrev gap : Bool → ℕ → Bool → ℕ → ℕ
-gap false A false X = X - A
-gap true A false X = X + A
-gap true A true X = A - X
-gap false A true X = 0
-
-abbrev Above : Bool → ℕ → Bool → ℕ → Type 0
-Above false A false X = A ≤ X
-Above true A false X = Unit {0}
-Above true A true X = X ≤ A
-Above false A true X = ⊥
 
 sum-gap : (s : Bool) (A : ℕ) (u : Bool) (X C : ℕ) → Above s A u X → sum binary64 u X (not s) A C ≡ round binary64 false (gap s A u X) C
 unfolding sum
@@ -280,12 +250,6 @@ far true M E false p q true P Q z Z l h =
         let b : G * (q * E) ≡ M * Q * (q * E) = ap (λ (n : ℕ). n * (q * E)) g in
         omega arith
 far false M E true p q u P Q z Z l h = absurd l
-
--- a NaN, or at least 1
-abbrev High : Float → Type 0
-High nan = Unit {0}
-High (inf s) = s ≡ false
-High (fin s m e) = (s ≡ false) × (down e ≤ m * up e)
 
 high_of : (v : Float) → Signed false v → T (le oneᶠ v) → High v
 unfolding le lt eq

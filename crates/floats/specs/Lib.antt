@@ -15,3 +15,4 @@ pub mod TotalOrder
 pub mod Cases
 pub mod IndexNearest
 pub mod Sooner
+pub mod Phases

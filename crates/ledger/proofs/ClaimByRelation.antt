@@ -12,11 +12,14 @@ use Rattle.ledger.specs.Calls.{Call, Reply}
 use Rattle.ledger.specs.Lists.{numbers}
 use Rattle.ledger.specs.Ledger.{Ledger, held, create}
 use Rattle.ledger.specs.Steps.{step, run}
-use Rattle.ledger.proofs.Sums.{event_sum, number_sum_append, number_sum_numbers, event_sum_one, event_sum_perm}
-use Rattle.ledger.proofs.Conservation.{by_number}
+use Rattle.ledger.specs.Sums.{event_sum}
+use Rattle.ledger.proofs.Sums.{number_sum_append, number_sum_numbers, event_sum_one, event_sum_perm}
+use Rattle.ledger.specs.Conservation.{by_number}
 use Rattle.ledger.specs.Claim.{accepted_of, accepted, among, times, Counts, counts_of, View, Engine, calls, engine_after, SameState, SameReply, SameReplies, IndexGivesPlaces, Lends, AllLend, Claim}
-use Rattle.ledger.proofs.Partition.{Partition, partition, is, times-is}
-use Rattle.ledger.proofs.Lawful.{Lawful, create_lawful, step_lawful}
+use Rattle.ledger.specs.Partition.{Partition, is}
+use Rattle.ledger.proofs.Partition.{partition, times-is}
+use Rattle.ledger.specs.Lawful.{Lawful}
+use Rattle.ledger.proofs.Lawful.{create_lawful, step_lawful}
 
 -- ---- what equal replies and equal states say
 

@@ -1,11 +1,10 @@
 -- Document 02, Paper 3: "a fade belongs to the clip". Which samples a fade multiplies is decided by their places in the block, whatever the place s at which the clip begins there. Assumes nothing.
 -- A phase is that of the fade's first place in the block and, from there on, a sum in f32: at that place itself it is the phase of the place, so a block that is cut gives the second part's first place its own phase.
-use Prim.Native.Nat.{ℕ, zero, suc, ◌+◌, ◌-◌, ◌≤◌, ◌<◌, min, max}
+use Prim.Native.Nat.{ℕ, zero, suc, ◌+◌, ◌-◌, ◌≤◌, ◌<◌, max}
 use Rattle.std.specs.Prelude.{◌≡◌, Bool, true, false, ◌&&◌, cond, ltb, leb, length, take, drop, get_or}
 use Rattle.std.proofs.Math.Path.{refl, ap}
-use Rattle.std.proofs.Common.{sym, ◌∙◌, arith, ltb-true, ltb-false, leb-true, leb-false, lt-ltb, le-ltb, le-leb, length-append, take-append-drop}
+use Rattle.std.proofs.Common.{sym, ◌∙◌, arith, ltb-true, ltb-false, leb-true, leb-false, length-append, take-append-drop}
 use mathlib.Core.List.{List, [], ◌∷◌, ◌++◌}
-use Rattle.std.proofs.lemmas.Bool.{lt-leb}
 use Rattle.std.specs.Float.Ieee.{Float}
 use Rattle.std.proofs.Math.ListN.{length-drop, get_or-map}
 use Rattle.std.proofs.lemmas.List.{length-map}
@@ -16,27 +15,7 @@ use Rattle.event.specs.Fades.{curve}
 use Rattle.event.specs.Runs.{length_made, get_or_in}
 use Rattle.event.specs.Sources.{steps, next_samples, sample_of, advanced}
 use Rattle.ledger.specs.BlockSamples.{Span, faded_all, faded, fade_in_place, fade_out_place, phase_at, phase_step, gained, run_faded_in, run_faded_out, faded_run}
-
--- ---- what the fades make of a sample x at block place p, of a clip that begins at block place s and ends before z
-
--- the phase of block place i, and p - i steps on
-abbrev pub phase_on : Span → (i p : ℕ) → (bottom top fade : Float) → Float
-phase_on b i p bottom top fade = steps (λ x. x +ˢ phase_step b fade) (phase_at b i bottom top) (p - i)
-
--- the fade-in multiplies at the places below its end place
-abbrev pub faded_in_at : Span → (s z p : ℕ) → Event → Float → Float
-faded_in_at b s z p e x =
-    let top = e.start_time +ᵈ e.fade_in in
-    cond (zeroᶠ <ᶠ e.fade_in && b.clock <ᶠ top) (cond (ltb p (fade_in_place b z e)) (x ×ˢ curve e.fade_ease (phase_on b s p e.start_time top e.fade_in)) x) x
-
--- the fade-out multiplies from its place on
-abbrev pub faded_out_at : Span → (s p : ℕ) → Event → Float → Float
-faded_out_at b s p e x =
-    let bottom = e.end_time -ᵈ e.fade_out in
-    let i = max (fade_out_place b e) s in
-    cond (zeroᶠ <ᶠ e.fade_out && bottom <ᶠ b.upto)
-    (cond (leb (fade_out_place b e) p) (x ×ˢ curve e.fade_ease (oneᶠ -ˢ phase_on b i p bottom e.end_time e.fade_out)) x)
-    x
+use Rattle.ledger.specs.FadesByPlace.{faded_in_at, faded_out_at, factor}
 
 -- ---- a faded run, place by place
 
@@ -61,10 +40,7 @@ dropped (suc f) (x ∷ l) (suc k) h = ap (λ (j : ℕ). get_or (drop f l) j zero
 
 -- the factor after k steps
 module _ (c : Fade) (rising : Bool) (step : Float) where
-  unfoldable factor : (phase : Float) → (k : ℕ) → Float
-  factor phase k = let x = steps (λ y. y +ˢ step) phase k in curve c (cond rising x (oneᶠ -ˢ x))
-
-  inside : (phase : Float) (l : List Float) (m k : ℕ) → k < m → k < length l → get_or (faded_all c rising phase step (take m l) ++ drop m l) k zeroᶠ ≡ get_or l k zeroᶠ ×ˢ factor phase k
+  inside : (phase : Float) (l : List Float) (m k : ℕ) → k < m → k < length l → get_or (faded_all c rising phase step (take m l) ++ drop m l) k zeroᶠ ≡ get_or l k zeroᶠ ×ˢ factor c rising step phase k
   unfolding faded_all factor steps
   inside phase [] m k h n = absurd (omega arith)
   inside phase (x ∷ l) zero k h n = absurd (omega arith)
@@ -83,12 +59,12 @@ module _ (c : Fade) (rising : Bool) (step : Float) where
   faded-before from to phase l k h n = before from l _ k h n
 
   faded-inside : (from to : ℕ) (phase : Float) (l : List Float) (k : ℕ) → from ≤ k → k < to → k < length l
-      → get_or (faded c rising from to phase step l) k zeroᶠ ≡ get_or l k zeroᶠ ×ˢ factor phase (k - from)
+      → get_or (faded c rising from to phase step l) k zeroᶠ ≡ get_or l k zeroᶠ ×ˢ factor c rising step phase (k - from)
   unfolding faded
   faded-inside from to phase l k f h n =
       after from l _ k f n
       ∙ inside phase (drop from l) (to - from) (k - from) (omega arith) (omega (arith, length-drop from l))
-      ∙ ap (λ (x : Float). x ×ˢ factor phase (k - from)) (dropped from l k f)
+      ∙ ap (λ (x : Float). x ×ˢ factor c rising step phase (k - from)) (dropped from l k f)
 
   faded-behind : (from to : ℕ) (phase : Float) (l : List Float) (k : ℕ) → from ≤ k → to ≤ k → k < length l → get_or (faded c rising from to phase step l) k zeroᶠ ≡ get_or l k zeroᶠ
   unfolding faded

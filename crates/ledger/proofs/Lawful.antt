@@ -1,58 +1,30 @@
 -- The laws of the ledger: they hold at every creation, every call keeps them, and so they hold after every list of calls, refused ones included. Assumes nothing.
-use Rattle.std.specs.Prelude.{ℕ, ◌+◌, ◌^◌, ◌≤◌, ◌<◌, ◌≡◌, refl, Bool, true, false, not, ◌&&◌, cond, ◌⊎◌, T, leb, eqb, length}
+use Rattle.std.specs.Prelude.{ℕ, ◌+◌, ◌^◌, ◌≤◌, ◌<◌, ◌≡◌, refl, Bool, true, false, ◌&&◌, cond, ◌⊎◌, T, leb, eqb, length}
 use Rattle.std.proofs.Common.{sym, ap, subst, inl, inr, ⊎_elim, arith, eqb→eq, leb→le}
-use mathlib.Core.List.{List, [], ◌∷◌, Memᴰ}
+use mathlib.Core.List.{List, [], ◌∷◌}
 use Rattle.std.specs.Float.Ieee.{lt, is_nan}
 use Rattle.event.specs.declared.Event.{Event}
 use Rattle.event.specs.declared.ReplayMode.{ReplayMode}
-use Rattle.floats.specs.Arithmetic.{◌<ᶠ◌, ◌≤ᶠ◌}
 use Rattle.ledger.specs.Calls.{Call}
 use Rattle.ledger.specs.Steps.{Outcome, step, run}
 use Rattle.ledger.specs.Ledger.{Ledger, held, create, fresh}
-use Rattle.ledger.proofs.Sums.{event_sum, event_sum_one, number_sum, number_sum_one, weight_in, weightless}
-use Rattle.ledger.proofs.Conservation.{four_sum, step-adds}
-use Rattle.ledger.specs.Claim.{accepted_of, accepted}
-use Rattle.ledger.proofs.Partition.{Partition, partition, stands, is, Numbered, same, issued, step-numbered, create-empty}
-use Rattle.ledger.proofs.Sorted.{Sorted, weakly_sorted, sorted_of, early, nan_start, one_if_no, no_one_if}
-use Rattle.ledger.proofs.NotNan.{billion, le-not_nan}
-use Rattle.ledger.proofs.OrderKept.{InOrder, step_order, create_order}
-use Rattle.ledger.proofs.Limits.{Limits, edits_of, step-limits, create-limits}
-
-abbrev pub NoNanStart : List Event → Type 0
-NoNanStart l = (e : Event) → Memᴰ e l → is_nan e.start_time ≡ false
-
-pub record Lawful (l : Ledger) : Type 0 where
-  -- W is sorted by start, then by number; no event of W has start < θ
-  pub sorted : Sorted l.waiting
-  pub on_time : (e : Event) → Memᴰ e l.waiting → (e.start_time <ᶠ l.threshold) ≡ false
-  -- at most 256 events are held, at most 256 edits are stored, one per number
-  pub events : held l ≤ 256
-  pub edits : length l.edits ≤ 256
-  pub one-edit : (k : ℕ) → edits_of k l.edits ≤ 1
-  -- numbers: the next is not 0, none stands twice in W, S, F and G, and none stands there that is yet to be given
-  pub positive : 0 < l.next
-  pub next : l.next ≤ 2 ^ 64
-  pub single : (k : ℕ) → stands k l ≤ 1
-  pub not_yet : (k : ℕ) → l.next ≤ k → stands k l ≡ 0
-  pub fewer : length l.gone + held l < l.next
-  pub counted : length l.gone + held l < 2 ^ 64
-  -- no start is a NaN; the clock is at most 1,000,000,000, so it is no NaN either
-  pub no_nan : NoNanStart l.waiting × NoNanStart l.sounding × NoNanStart l.finished
-  pub clock : T (l.clock ≤ᶠ billion)
-
--- ---- numbers
-
-abbrev one : ℕ → ℕ
-one n = 1
+use Rattle.ledger.specs.Sums.{event_sum, number_sum}
+use Rattle.ledger.proofs.Sums.{event_sum_one, number_sum_one, weight_in, weightless}
+use Rattle.ledger.specs.Conservation.{four_sum}
+use Rattle.ledger.proofs.Conservation.{step-adds}
+use Rattle.ledger.specs.Claim.{accepted_of}
+use Rattle.ledger.specs.Partition.{is, Numbered, same, issued}
+use Rattle.ledger.proofs.Partition.{step-numbered, create-empty}
+use Rattle.ledger.specs.Sorted.{early, nan_start}
+use Rattle.ledger.proofs.Sorted.{weakly_sorted, sorted_of, one_if_no, no_one_if}
+use Rattle.ledger.specs.OrderKept.{InOrder}
+use Rattle.ledger.proofs.OrderKept.{step_order, create_order}
+use Rattle.ledger.specs.Limits.{Limits}
+use Rattle.ledger.proofs.Limits.{step-limits, create-limits}
+use Rattle.ledger.specs.Lawful.{NoNanStart, Lawful, one, Counts}
 
 pub lengths : (l : Ledger) → four_sum one l ≡ length l.gone + held l
 lengths l = omega (arith, event_sum_one l.waiting, event_sum_one l.sounding, event_sum_one l.finished, number_sum_one l.gone)
-
-record Counts (l : Ledger) : Type 0 where
-  positive : 0 < l.next
-  single : (k : ℕ) → four_sum (is k) l ≤ 1
-  not_yet : (k : ℕ) → l.next ≤ k → four_sum (is k) l ≡ 0
-  fewer : four_sum one l < l.next
 
 -- the next number weighs 1 at itself, 0 elsewhere
 is-cases : (k n : ℕ) → (is k n ≤ 1) × (n < k → is k n ≡ 0) × (is k n ≡ 0 ⊎ n ≡ k)

@@ -9,6 +9,8 @@ pub mod CasesOfRefusals
 pub mod CasesOfSamples
 pub mod CasesOfSlips
 pub mod ClaimByRelation
+pub mod PlacesWithin
+pub mod WithinBlock
 pub mod Conservation
 pub mod FadesByPlace
 pub mod FormerMethod
@@ -20,11 +22,9 @@ pub mod MixOrders
 pub mod NotNan
 pub mod OrderKept
 pub mod Partition
-pub mod PlacesWithin
 pub mod Refused
 pub mod Sorted
 pub mod Sums
 pub mod TakenPlacesProof
-pub mod WithinBlock
 pub mod WithoutGain
 pub mod WrongEngines

@@ -17,27 +17,12 @@ use Rattle.ledger.specs.Refusals.{missing, checks, push_checks, edit_checks, ref
 use Rattle.ledger.specs.Steps.{accept, decide, step, change, set_rate, restart, everything, advance, pushed_time, span_of, cleared, enter}
 use Rattle.ledger.specs.Ledger.{Ledger, create, held, fresh}
 use Rattle.ledger.proofs.Sums.{event_sum_one, event_sum_rewound, event_sum_edit, event_sum_tick, event_sum_block}
-use Rattle.ledger.proofs.Conservation.{held_sum, held_sum_enter, held_sum_advance, event_sum_stays, event_sum_everything}
-use Rattle.ledger.proofs.Partition.{is}
-use Rattle.ledger.proofs.Refused.{AllPass, all_pass}
-
-abbrev one : Float → ℕ → ℕ
-one x n = 1
-
--- a weight for each stored edit, by its number
-abbrev pub edit_sum : (ℕ → ℕ) → List StoredEdit → ℕ
-edit_sum u [] = 0
-edit_sum u (x ∷ l) = u x.id.0 + edit_sum u l
-
--- how many edits a number has
-abbrev pub edits_of : ℕ → List StoredEdit → ℕ
-edits_of k l = edit_sum (is k) l
-
-pub record Limits (l : Ledger) : Type 0 where
-  pub events : held_sum one l ≤ 256
-  pub edits : length l.edits ≤ 256
-  pub once : (k : ℕ) → edits_of k l.edits ≤ 1
-  pub next : l.next ≤ 2 ^ 64
+use Rattle.ledger.specs.Conservation.{held_sum}
+use Rattle.ledger.proofs.Conservation.{held_sum_enter, held_sum_advance, event_sum_stays, event_sum_everything}
+use Rattle.ledger.specs.Partition.{is}
+use Rattle.ledger.specs.Refused.{AllPass}
+use Rattle.ledger.proofs.Refused.{all_pass}
+use Rattle.ledger.specs.Limits.{one, edit_sum, edits_of, Limits}
 
 pub held-is : (l : Ledger) → held l ≡ held_sum one l
 held-is l = omega (arith, event_sum_one l.waiting, event_sum_one l.sounding, event_sum_one l.finished)

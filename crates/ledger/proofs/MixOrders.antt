@@ -3,14 +3,11 @@ use Rattle.std.specs.Prelude.{ℕ, ◌≡◌, refl, List, Float}
 use Rattle.std.proofs.Math.Option.{Option, none, some}
 use Rattle.event.specs.declared.MixOrder.{MixOrder}
 use Rattle.event.specs.declared.MixOrder.TheVariants.{Forward}
-use Rattle.ledger.specs.Calls.{Call, tick, block}
+use Rattle.ledger.specs.Calls.{tick, block}
 use Rattle.ledger.specs.Ledger.{Ledger}
 use Rattle.ledger.specs.Refusals.{checks, refusal}
 use Rattle.ledger.specs.Steps.{accept, decide, step}
-
--- the calls c and d leave the same and answer the same
-abbrev pub Alike : Ledger → (c d : Call) → Type 0
-Alike l c d = ((step l c).ledger ≡ (step l d).ledger) × ((step l c).reply.answer ≡ (step l d).reply.answer)
+use Rattle.ledger.specs.MixOrders.{Alike}
 
 pub tick_as_unmarked : (l : Ledger) (order : MixOrder) (pool out : List Float) → Alike l (tick order pool out) (tick Forward pool out)
 unfolding step refusal checks decide accept

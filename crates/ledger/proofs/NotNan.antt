@@ -9,10 +9,7 @@ use Rattle.floats.specs.Arithmetic.{whole}
 use Rattle.ledger.specs.Calls.{PushKind, absolute, relative, by_duration}
 use Rattle.ledger.specs.Refusals.{within}
 use Rattle.ledger.specs.Steps.{pushed_time}
-
--- the limit of clock and times
-abbrev pub billion : Float
-billion = whole 1_000_000_000
+use Rattle.ledger.specs.NotNan.{billion}
 
 pub le-not_nan : (x y : Float) → T (le x y) → T (not (is_nan x))
 unfolding le is_nan lt eq

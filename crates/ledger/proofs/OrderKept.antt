@@ -15,17 +15,16 @@ use Rattle.event.specs.Events.{new_event, rewound}
 use Rattle.ledger.specs.Lists.{insert_all, has}
 use Rattle.ledger.specs.Steps.{enter, accept, decide, step, change, set_rate, restart, everything, advance, pushed_time, span_of, cleared}
 use Rattle.ledger.specs.Ledger.{Ledger, create, fresh}
-use Rattle.ledger.proofs.Sums.{event_sum, event_sum_insert, event_sum_rewound, event_sum_edit, event_sum_tick, event_sum_block}
-use Rattle.ledger.proofs.Conservation.{held_sum, held_sum_enter, held_sum_advance, event_sum_stays, event_sum_everything}
-use Rattle.ledger.proofs.Sorted.{WeaklySorted, weakly_sorted-insert, weakly_sorted-insert_all, weakly_sorted-rewound, one_if_no, early, nan_start, start_sorted, early-nothing}
-use Rattle.ledger.proofs.NotNan.{billion, le-not_nan, pushed_time-not_nan}
-use Rattle.ledger.proofs.Refused.{AllPass, all_pass}
-
-pub record InOrder (l : Ledger) : Type 0 where
-  pub sorted : WeaklySorted l.waiting
-  pub on_time : event_sum (early l.threshold) l.waiting ≡ 0  -- none of W starts before θ
-  pub no_nan : held_sum nan_start l ≡ 0  -- no start is a NaN
-  pub clocked : T (l.clock ≤ᶠ billion)  -- so it is no NaN either
+use Rattle.ledger.specs.Sums.{event_sum}
+use Rattle.ledger.proofs.Sums.{event_sum_insert, event_sum_rewound, event_sum_edit, event_sum_tick, event_sum_block}
+use Rattle.ledger.proofs.Conservation.{held_sum_enter, held_sum_advance, event_sum_stays, event_sum_everything}
+use Rattle.ledger.specs.Sorted.{WeaklySorted, early, nan_start}
+use Rattle.ledger.proofs.Sorted.{weakly_sorted-insert, weakly_sorted-insert_all, weakly_sorted-rewound, one_if_no, start_sorted, early-nothing}
+use Rattle.ledger.specs.NotNan.{billion}
+use Rattle.ledger.proofs.NotNan.{le-not_nan, pushed_time-not_nan}
+use Rattle.ledger.specs.Refused.{AllPass}
+use Rattle.ledger.proofs.Refused.{all_pass}
+use Rattle.ledger.specs.OrderKept.{InOrder}
 
 not-not : (b : Bool) → T (not (not b)) → T b
 not-not true h = tt

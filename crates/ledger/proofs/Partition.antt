@@ -10,12 +10,15 @@ use Rattle.floats.specs.Arithmetic.{◌<ᶠ◌}
 use Rattle.ledger.specs.Calls.{Call, push, edit, tick, block, rate, reset}
 use Rattle.ledger.specs.Steps.{Outcome, accept, decide, step, run, change, set_rate, restart, enter, advance}
 use Rattle.ledger.specs.Refusals.{refusal, edit_end}
-use Rattle.ledger.specs.Ledger.{Ledger, held, create, fresh}
+use Rattle.ledger.specs.Ledger.{Ledger, create, fresh}
 use Rattle.ledger.specs.Lists.{has}
-use Rattle.ledger.proofs.Sums.{number_sum, number_sum_append, number_sum_one, event_sum_one}
-use Rattle.ledger.proofs.Conservation.{four_sum, refused_none, step-adds}
+use Rattle.ledger.specs.Sums.{number_sum}
+use Rattle.ledger.proofs.Sums.{number_sum_append, number_sum_one, event_sum_one}
+use Rattle.ledger.specs.Conservation.{four_sum}
+use Rattle.ledger.proofs.Conservation.{refused_none, step-adds}
 use Rattle.ledger.specs.Numbers.{up_from}
 use Rattle.ledger.specs.Claim.{accepted_of, accepted, times, among}
+use Rattle.ledger.specs.Partition.{Numbered, is, Partition, same, issued}
 
 pub four_sum_run : (u : ℕ → ℕ) (cs : List Call) (l : Ledger) → four_sum u (run cs l).ledger ≡ four_sum u l + number_sum u (accepted (run cs l).replies)
 unfolding run
@@ -23,12 +26,6 @@ four_sum_run u [] l = omega arith
 four_sum_run u (c ∷ cs) l =
     let a = step l c in
     omega (arith, four_sum_run u cs a.ledger, step-adds u l c, number_sum_append u (accepted_of a.reply.answer) (accepted (run cs a.ledger).replies))
-
--- ---- the numbers count up
-
-pub data Numbered (l : Ledger) (o : Outcome) : Type 0 where
-  same : accepted_of o.reply.answer ≡ [] → o.ledger.next ≡ l.next → Numbered l o
-  issued : accepted_of o.reply.answer ≡ l.next ∷ [] → o.ledger.next ≡ suc l.next → Numbered l o
 
 change-numbered : (l : Ledger) (k : ℕ) (d : Edit) (a b : Bool) → Numbered l (change l k d a b)
 unfolding change
@@ -75,11 +72,6 @@ run_up (c ∷ cs) l = go (step l c) (step-numbered l c) (run_up cs (step l c).le
     go o (same h n) r = rw (h, ← n) r
     go o (issued h n) r = rw h (ap (λ m. l.next ∷ m) (rw (← n) r))
 
--- ---- counting one number
-
-abbrev pub is : ℕ → ℕ → ℕ
-is k n = cond (eqb n k) 1 0
-
 count_below : (k a n : ℕ) → k < a → times k (up_from a n) ≡ 0
 count_below k a zero h = refl
 count_below k a (suc n) h = go (eqb a k) refl (count_below k (suc a) n (omega arith))
@@ -100,10 +92,6 @@ pub times-is : (k : ℕ) (l : List ℕ) → times k l ≡ number_sum (is k) l
 times-is k [] = refl
 times-is k (n ∷ l) = ap (λ m. is k n + m) (times-is k l)
 
--- how often a number stands in W, S, F and G
-abbrev pub stands : ℕ → Ledger → ℕ
-stands k l = four_sum (is k) l
-
 pub once_or_never : (k : ℕ) (l : List ℕ) → times k l ≤ 1 → times k l ≡ cond (among k l) 1 0
 once_or_never k [] h = refl
 once_or_never k (n ∷ l) h = go (eqb n k) h (once_or_never k l (omega arith))
@@ -111,15 +99,6 @@ once_or_never k (n ∷ l) h = go (eqb n k) h (once_or_never k l (omega arith))
     go : (b : Bool) → cond b 1 0 + times k l ≤ 1 → times k l ≡ cond (among k l) 1 0 → cond b 1 0 + times k l ≡ cond (b || among k l) 1 0
     go true h r = omega arith
     go false h r = omega (arith, r)
-
--- `answered` are the numbers that pushes were answered with, in order
-pub record Partition (first : ℕ) (l : Ledger) (answered : List ℕ) : Type 0 where
-  -- accepted pushes = waiting + sounding + finished + let go
-  pub as_many : length answered ≡ held l + length l.gone
-  -- an accepted number stands once in the four, any other not at all
-  pub once : (k : ℕ) → stands k l ≡ cond (among k answered) 1 0
-  -- they are first, first + 1, ..
-  pub in_order : answered ≡ up_from first (length answered)
 
 pub create-empty : (u : ℕ → ℕ) (channels : ℕ) (mode : ReplayMode) (first : ℕ) → four_sum u (create channels mode first).ledger ≡ 0
 unfolding create fresh

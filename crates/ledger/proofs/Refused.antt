@@ -1,50 +1,16 @@
 -- A refused call changes nothing, lent lists included, of the ledger and of what replies alike; a call that is not refused passed all its checks.
-use Rattle.std.specs.Prelude.{ℕ, suc, ◌<◌, ◌≡◌, refl, Bool, true, false, not, List, [], ◌∷◌, T, length, get_or, Float}
+use Rattle.std.specs.Prelude.{ℕ, suc, ◌<◌, ◌≡◌, refl, Bool, true, false, List, [], ◌∷◌, length, get_or, Float}
 use Rattle.std.proofs.Common.{ap, ap₂, arith}
 use Rattle.std.proofs.Math.Option.{Option, none, some}
 use Rattle.event.specs.declared.Edit.{Edit}
 use Rattle.floats.specs.Arithmetic.{◌<ᶠ◌, zeroᶠ}
-use Rattle.ledger.specs.Calls.{Call, push, edit, tick, block, rate, reset, Answer, number, applied, past, stored, done, rendered, refused, Reply}
+use Rattle.ledger.specs.Calls.{Call, push, edit, tick, block, rate, reset, refused, Reply}
 use Rattle.ledger.specs.Lists.{has}
 use Rattle.ledger.specs.Ledger.{Ledger}
 use Rattle.ledger.specs.Refusals.{Check, refuses, first_of, length_or, refusal, edit_end}
-use Rattle.ledger.specs.Steps.{Outcome, change, accept, refused_reply, decide, step}
+use Rattle.ledger.specs.Steps.{change, accept, refused_reply, decide, step}
 use Rattle.ledger.specs.Claim.{SameReply, SameScratch}
-
--- ---- what is lent to a call to be written
-
-abbrev pub lent_out : Call → List Float
-lent_out (push kind start end fade_in fade_out curve source gain) = []
-lent_out (edit kind n end fade_out) = []
-lent_out (tick order pool out) = out
-lent_out (block order n pool out scratch) = out
-lent_out (rate r) = []
-lent_out reset = []
-
-abbrev pub lent_scratch : Call → Option (List Float)
-lent_scratch (push kind start end fade_in fade_out curve source gain) = none
-lent_scratch (edit kind n end fade_out) = none
-lent_scratch (tick order pool out) = none
-lent_scratch (block order n pool out scratch) = scratch
-lent_scratch (rate r) = none
-lent_scratch reset = none
-
--- ---- a call that is answered with a refusal
-
-pub record Unchanged (l : Ledger) (c : Call) (o : Outcome) : Type 0 where
-  pub ledger : o.ledger ≡ l
-  pub out : o.reply.out ≡ lent_out c
-  pub scratch : o.reply.scratch ≡ lent_scratch c
-
--- a refusal is the only answer that has a number of document 01's list
-abbrev pub refused_with : Answer → Option ℕ
-refused_with (number k) = none
-refused_with applied = none
-refused_with past = none
-refused_with stored = none
-refused_with done = none
-refused_with (rendered c) = none
-refused_with (refused k) = some k
+use Rattle.ledger.specs.Refused.{lent_out, lent_scratch, Unchanged, refused_with, AllPass}
 
 change-never-refuses : (l : Ledger) (k : ℕ) (d : Edit) (a b : Bool) → refused_with (change l k d a b).reply.answer ≡ none
 unfolding change
@@ -99,12 +65,6 @@ lent_back r (tick order pool out) k h = (h.out, same-lent r.scratch none h.scrat
 lent_back r (block order n pool out scratch) k h = (h.out, same-lent r.scratch scratch h.scratch)
 lent_back r (rate x) k h = (h.out, same-lent r.scratch none h.scratch)
 lent_back r reset k h = (h.out, same-lent r.scratch none h.scratch)
-
--- ---- a call that no refusal names
-
-abbrev pub AllPass : List Check → Type 0
-AllPass [] = Unit {0}
-AllPass (refuses k b ∷ l) = T (not b) × AllPass l
 
 pub all_pass : (l : List Check) → first_of l ≡ none → AllPass l
 unfolding first_of

@@ -12,26 +12,14 @@ use Rattle.floats.specs.Sooner.{sooner_asymmetric, sooner-total, not-sooner_tran
 use Rattle.event.specs.declared.Event.{Event}
 use Rattle.event.specs.declared.StoredEdit.{StoredEdit}
 use Rattle.event.specs.Events.{number_of, earlier, rewound}
-use Rattle.floats.specs.Arithmetic.{zeroᶠ, -∞}
+use Rattle.floats.specs.Arithmetic.{ -∞}
 use Rattle.ledger.specs.FloatOrder.{lt_through, not-before-all}
 use Rattle.ledger.specs.Lists.{insert, insert_all, start, with_edit, edit_of, drop_edit}
-use Rattle.ledger.proofs.Sums.{event_sum, weight_in}
-use Rattle.ledger.proofs.Conservation.{by_number}
-use Rattle.ledger.proofs.Partition.{is}
-
--- each comes before all that follow it
-abbrev pub Sorted : List Event → Type 0
-Sorted [] = Unit {0}
-Sorted (e ∷ l) = ((f : Event) → Memᴰ f l → earlier e f ≡ true) × Sorted l
-
--- ---- neighbours suffice: none comes before the one in front of it
-abbrev pub Before : Event → List Event → Type 0
-Before e [] = Unit {0}
-Before e (f ∷ l) = earlier f e ≡ false
-
-abbrev pub WeaklySorted : List Event → Type 0
-WeaklySorted [] = Unit {0}
-WeaklySorted (e ∷ l) = Before e l × WeaklySorted l
+use Rattle.ledger.specs.Sums.{event_sum}
+use Rattle.ledger.proofs.Sums.{weight_in}
+use Rattle.ledger.specs.Conservation.{by_number}
+use Rattle.ledger.specs.Partition.{is}
+use Rattle.ledger.specs.Sorted.{Sorted, Before, WeaklySorted, one_if, early, nan_start}
 
 before-insert : (e f : Event) (m : List Event) → earlier e f ≡ false → Before f m → Before f (insert e m)
 unfolding insert
@@ -92,23 +80,12 @@ sorted_of (e ∷ l) d s = (
   sorted_of l (λ k. omega (arith, d k)) s.1,
 )
 
--- ---- none before the threshold: as a weight, so that `specs.Sums` and `specs.Conservation` carry it along
-
-abbrev pub one_if : Bool → ℕ
-one_if b = cond b 1 0
-
 pub one_if_no : (b : Bool) → b ≡ false → one_if b ≡ 0
 one_if_no b h = ap one_if h
 
 pub no_one_if : (b : Bool) → one_if b ≤ 0 → b ≡ false
 no_one_if true h = absurd (omega arith)
 no_one_if false h = refl
-
-abbrev pub early : Float → Float → ℕ → ℕ
-early θ x n = one_if (lt x θ)
-
-abbrev pub nan_start : Float → ℕ → ℕ
-nan_start x n = one_if (is_nan x)
 
 -- an event that may stand after e starts no earlier
 starts-later : (e f : Event) → earlier f e ≡ false → T (not (lt f.start_time e.start_time))

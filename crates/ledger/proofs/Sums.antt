@@ -19,6 +19,7 @@ use Rattle.event.specs.Sources.{advanced_by}
 use Rattle.ledger.specs.TickSamples.{tick_sum}
 use Rattle.ledger.specs.BlockSamples.{block_sum, Span, first_place, end_place, channel_after, scratch_after, after_block}
 use Rattle.ledger.specs.Lists.{numbers, insert, insert_all, start, last_of, but_last, last_first, sweep, with_edit, edit_of, drop_edit, edit_in}
+use Rattle.ledger.specs.Sums.{number_sum, weight, event_sum}
 
 -- ---- moving the last to the front keeps the length
 
@@ -33,59 +34,48 @@ length-last_first (e ∷ l) = ap suc (length-but_last e l)
 -- ---- the sum of a weight over a list of numbers
 
 module _ (u : ℕ → ℕ) where
-  abbrev pub number_sum : List ℕ → ℕ
-  number_sum [] = 0
-  number_sum (n ∷ l) = u n + number_sum l
-
-  pub number_sum_append : (a b : List ℕ) → number_sum (a ++ b) ≡ number_sum a + number_sum b
+  pub number_sum_append : (a b : List ℕ) → number_sum u (a ++ b) ≡ number_sum u a + number_sum u b
   number_sum_append [] b = omega arith
   number_sum_append (n ∷ a) b = omega (arith, number_sum_append a b)
 
 -- ---- the sum of a weight over a list of events, made of start and number: each operation of the ledger keeps it
 
 module _ (w : Float → ℕ → ℕ) where
-  abbrev pub weight : Event → ℕ
-  weight e = w e.start_time (number_of e)
-
-  abbrev pub event_sum : List Event → ℕ
-  event_sum [] = 0
-  event_sum (e ∷ l) = weight e + event_sum l
-
-  with_edit_weight : (o : Option Edit) (e : Event) → weight (with_edit o e) ≡ weight e
+  with_edit_weight : (o : Option Edit) (e : Event) → weight w (with_edit o e) ≡ weight w e
   with_edit_weight none e = refl
   with_edit_weight (some d) e = refl
 
-  pub event_sum_append : (a b : List Event) → event_sum (a ++ b) ≡ event_sum a + event_sum b
+  pub event_sum_append : (a b : List Event) → event_sum w (a ++ b) ≡ event_sum w a + event_sum w b
   event_sum_append [] b = omega arith
   event_sum_append (n ∷ a) b = omega (arith, event_sum_append a b)
 
-  pub event_sum_insert : (e : Event) (l : List Event) → event_sum (insert e l) ≡ weight e + event_sum l
+  pub event_sum_insert : (e : Event) (l : List Event) → event_sum w (insert e l) ≡ weight w e + event_sum w l
   unfolding insert
   event_sum_insert e [] = refl
   event_sum_insert e (f ∷ l) = go (earlier e f) refl (event_sum_insert e l)
     where
-      go : (b : Bool) → earlier e f ≡ b → event_sum (insert e l) ≡ weight e + event_sum l → event_sum (insert e (f ∷ l)) ≡ weight e + event_sum (f ∷ l)
+      go : (b : Bool) → earlier e f ≡ b → event_sum w (insert e l) ≡ weight w e + event_sum w l → event_sum w (insert e (f ∷ l)) ≡ weight w e + event_sum w (f ∷ l)
       go true h r = rw (h, insert) refl
       go false h r = rw (h, insert) (omega (arith, r))
 
-  pub event_sum_insert_all : (a l : List Event) → event_sum (insert_all a l) ≡ event_sum a + event_sum l
+  pub event_sum_insert_all : (a l : List Event) → event_sum w (insert_all a l) ≡ event_sum w a + event_sum w l
   unfolding insert_all
   event_sum_insert_all [] l = omega arith
   event_sum_insert_all (e ∷ a) l = omega (arith, event_sum_insert_all a (insert e l), event_sum_insert e l)
 
-  pub event_sum_rewound : (a : List Event) → event_sum (map rewound a) ≡ event_sum a
+  pub event_sum_rewound : (a : List Event) → event_sum w (map rewound a) ≡ event_sum w a
   event_sum_rewound [] = refl
-  event_sum_rewound (e ∷ a) = ap (λ n. weight e + n) (event_sum_rewound a)
+  event_sum_rewound (e ∷ a) = ap (λ n. weight w e + n) (event_sum_rewound a)
 
-  pub event_sum_edit : (k : ℕ) (d : Edit) (a : List Event) → event_sum (edit_in k d a) ≡ event_sum a
+  pub event_sum_edit : (k : ℕ) (d : Edit) (a : List Event) → event_sum w (edit_in k d a) ≡ event_sum w a
   event_sum_edit k d [] = refl
   event_sum_edit k d (e ∷ a) = go (eqb (number_of e) k) refl (event_sum_edit k d a)
     where
-      go : (b : Bool) → eqb (number_of e) k ≡ b → event_sum (edit_in k d a) ≡ event_sum a → event_sum (edit_in k d (e ∷ a)) ≡ event_sum (e ∷ a)
+      go : (b : Bool) → eqb (number_of e) k ≡ b → event_sum w (edit_in k d a) ≡ event_sum w a → event_sum w (edit_in k d (e ∷ a)) ≡ event_sum w (e ∷ a)
       go true h r = rw (h, edit_in) refl
       go false h r = rw (h, edit_in) (omega arith)
 
-  pub event_sum_start : (θ : Float) (a s : List Event) (x : List StoredEdit) → event_sum (start θ a s x).waiting + event_sum (start θ a s x).sounding ≡ event_sum a + event_sum s
+  pub event_sum_start : (θ : Float) (a s : List Event) (x : List StoredEdit) → event_sum w (start θ a s x).waiting + event_sum w (start θ a s x).sounding ≡ event_sum w a + event_sum w s
   unfolding start
   event_sum_start θ [] s x = refl
   event_sum_start θ (e ∷ a) s x = go (lt e.start_time θ) refl (event_sum_start θ a (s ++ (with_edit (edit_of (number_of e) x) e ∷ [])) (drop_edit (number_of e) x))
@@ -96,20 +86,20 @@ module _ (w : Float → ℕ → ℕ) where
       x' : List StoredEdit
       x' = drop_edit (number_of e) x
 
-      go : (b : Bool) → lt e.start_time θ ≡ b → event_sum (start θ a s' x').waiting + event_sum (start θ a s' x').sounding ≡ event_sum a + event_sum s'
-          → event_sum (start θ (e ∷ a) s x).waiting + event_sum (start θ (e ∷ a) s x).sounding ≡ event_sum (e ∷ a) + event_sum s
+      go : (b : Bool) → lt e.start_time θ ≡ b → event_sum w (start θ a s' x').waiting + event_sum w (start θ a s' x').sounding ≡ event_sum w a + event_sum w s'
+          → event_sum w (start θ (e ∷ a) s x).waiting + event_sum w (start θ (e ∷ a) s x).sounding ≡ event_sum w (e ∷ a) + event_sum w s
       go true h r = rw (h, start) (omega (arith, r, event_sum_append s (with_edit (edit_of (number_of e) x) e ∷ []), (with_edit_weight (edit_of (number_of e) x) e)))
       go false h r = rw (h, start) refl
 
-  event_sum_but_last : (e : Event) (l : List Event) → weight (last_of e l) + event_sum (but_last e l) ≡ weight e + event_sum l
+  event_sum_but_last : (e : Event) (l : List Event) → weight w (last_of e l) + event_sum w (but_last e l) ≡ weight w e + event_sum w l
   event_sum_but_last e [] = refl
   event_sum_but_last e (f ∷ l) = omega (arith, event_sum_but_last f l)
 
-  pub event_sum_last_first : (l : List Event) → event_sum (last_first l) ≡ event_sum l
+  pub event_sum_last_first : (l : List Event) → event_sum w (last_first l) ≡ event_sum w l
   event_sum_last_first [] = refl
   event_sum_last_first (e ∷ l) = event_sum_but_last e l
 
-  pub event_sum_sweep : (k : ℕ) (limit : Float) (s : List Event) → length s ≤ k → event_sum (sweep k limit s).sounding + event_sum (sweep k limit s).finished ≡ event_sum s
+  pub event_sum_sweep : (k : ℕ) (limit : Float) (s : List Event) → length s ≤ k → event_sum w (sweep k limit s).sounding + event_sum w (sweep k limit s).finished ≡ event_sum w s
   unfolding sweep
   event_sum_sweep zero limit [] h = refl
   event_sum_sweep zero limit (e ∷ s) h = absurd (omega arith)
@@ -118,26 +108,26 @@ module _ (w : Float → ℕ → ℕ) where
       go (le e.end_time limit) refl (event_sum_sweep k limit (last_first s) (omega (arith, length-last_first s))) (event_sum_sweep k limit s (omega arith))
     where
       go : (b : Bool) → le e.end_time limit ≡ b
-          → event_sum (sweep k limit (last_first s)).sounding + event_sum (sweep k limit (last_first s)).finished ≡ event_sum (last_first s)
-          → event_sum (sweep k limit s).sounding + event_sum (sweep k limit s).finished ≡ event_sum s
-          → event_sum (sweep (suc k) limit (e ∷ s)).sounding + event_sum (sweep (suc k) limit (e ∷ s)).finished ≡ event_sum (e ∷ s)
+          → event_sum w (sweep k limit (last_first s)).sounding + event_sum w (sweep k limit (last_first s)).finished ≡ event_sum w (last_first s)
+          → event_sum w (sweep k limit s).sounding + event_sum w (sweep k limit s).finished ≡ event_sum w s
+          → event_sum w (sweep (suc k) limit (e ∷ s)).sounding + event_sum w (sweep (suc k) limit (e ∷ s)).finished ≡ event_sum w (e ∷ s)
       go true h r q = rw (h, sweep) (omega (arith, r, event_sum_last_first s))
       go false h r q = rw (h, sweep) (omega arith)
 
-  pub event_sum_tick : (pool : List Float) (t : Float) (s : List Event) (a : Float) → event_sum (tick_sum pool t s a).events ≡ event_sum s
+  pub event_sum_tick : (pool : List Float) (t : Float) (s : List Event) (a : Float) → event_sum w (tick_sum pool t s a).events ≡ event_sum w s
   unfolding tick_sum
   event_sum_tick pool t [] a = refl
-  event_sum_tick pool t (e ∷ s) a = ap (λ n. weight e + n) (event_sum_tick pool t s _)
+  event_sum_tick pool t (e ∷ s) a = ap (λ n. weight w e + n) (event_sum_tick pool t s _)
 
-  after_weight : (b : Span) (e : Event) → weight (after_block b e) ≡ weight e
+  after_weight : (b : Span) (e : Event) → weight w (after_block b e) ≡ weight w e
   unfolding after_block
   after_weight b e = go (ltb (first_place b e) (end_place b e))
     where
-      go : (c : Bool) → weight (cond c (with_unit (advanced_by e.unit (end_place b e - first_place b e)) e) e) ≡ weight e
+      go : (c : Bool) → weight w (cond c (with_unit (advanced_by e.unit (end_place b e - first_place b e)) e) e) ≡ weight w e
       go true = refl
       go false = refl
 
-  pub event_sum_block : (pool : List Float) (b : Span) (s : List Event) (channel scratch : List Float) → event_sum (block_sum pool b s channel scratch).events ≡ event_sum s
+  pub event_sum_block : (pool : List Float) (b : Span) (s : List Event) (channel scratch : List Float) → event_sum w (block_sum pool b s channel scratch).events ≡ event_sum w s
   unfolding block_sum
   event_sum_block pool b [] channel scratch = refl
   event_sum_block pool b (e ∷ s) channel scratch = ap₂ (λ m n. m + n) (after_weight b e) (event_sum_block pool b s (channel_after pool b e channel) (scratch_after pool b e scratch))

@@ -6,7 +6,8 @@ use Rattle.lodge.specs.declared.Answer.{Answer}
 use Rattle.lodge.specs.declared.Answer.TheVariants.{At}
 use Rattle.lodge.specs.Hours.{in_use, Proper, Fits, Right}
 use Rattle.lodge.specs.Search.{orderly, searched, answered}
-use Rattle.lodge.proofs.Theorem.{Outcome, refused, made, outcome, Ending, now, then, never, ending, fits-long, all_short}
+use Rattle.lodge.specs.Theorem.{Outcome, refused, made, Ending, now, then, never}
+use Rattle.lodge.proofs.Theorem.{outcome, ending, fits-long, all_short}
 use Rattle.lodge.proofs.Theorem.{now_later, now_fits, now_least, then-later, then-fits, then-least}
 
 module _ (h : Hours) (m n : ℕ) (a : Answer) (r : Right h m n a) where

@@ -1,7 +1,7 @@
 -- Every answer is right (`right`). Before that, the branches by which the code comes to its answer. Assumes nothing.
-use Rattle.std.specs.Prelude.{◌≡◌, refl, Bool, true, false, cond, ◌⊎◌, ℕ, zero, suc, ◌+◌, ◌-◌, ◌*◌, ◌/◌, ◌%◌, ◌^◌, max, ◌≤◌, ◌<◌, ltb, eqb}
-use Rattle.std.proofs.Common.{sym, ap, ◌∙◌, subst, true≢false, inl, inr, ⊎_elim, div-add-mod', mod-lt, arith}
-use mathlib.Core.List.{List, Memᴰ}
+use Rattle.std.specs.Prelude.{◌≡◌, refl, Bool, true, false, cond, ◌⊎◌, ℕ, ◌+◌, ◌-◌, ◌*◌, ◌/◌, ◌%◌, ◌≤◌, ◌<◌, ltb, eqb}
+use Rattle.std.proofs.Common.{sym, ◌∙◌, subst, true≢false, inl, inr, ⊎_elim, div-add-mod', mod-lt, arith}
+use mathlib.Core.List.{List}
 use borrow.Author.Tests.{ltb-true, ltb-false, eqb-true, eqb-false, lt-ltb, le-ltb, eq-eqb, ne_eqb}
 use Rattle.lodge.specs.declared.Window.{Window}
 use Rattle.lodge.specs.declared.Hours.{Hours}
@@ -11,7 +11,8 @@ use Rattle.lodge.specs.declared.Found.{Found}
 use Rattle.lodge.specs.declared.Found.TheVariants as found
 use Rattle.lodge.specs.Hours.{in_use, Proper, Fits, Short, Right}
 use Rattle.lodge.specs.Search.{orderly, first_from, searched, answered}
-use Rattle.lodge.specs.Firsts.{Room, sits, orderly_lawful, lawful_orderly, found-room, found-least, none_found}
+use Rattle.lodge.specs.Firsts.{sits, orderly_lawful, lawful_orderly, found-room, found-least, none_found}
+use Rattle.lodge.specs.Theorem.{Outcome, Ending, refused, made, now, then, never}
 
 -- The branches, as the code takes them.
 module _ (h : Hours) (m n : ℕ) where
@@ -55,11 +56,6 @@ found_inside from n ws t o e =
     let k = r.open_still in
     omega arith
 
--- either something is wrong, or the search was made
-pub data Outcome (h : Hours) (m n : ℕ) (a : Answer) : Type 0 where
-  refused : (Proper h m n → ⊥) → a ≡ Refused 21 → Outcome h m n a
-  made : Proper h m n → orderly 0 (in_use h) ≡ true → a ≡ searched (in_use h) m n → Outcome h m n a
-
 pub outcome : (h : Hours) (m n : ℕ) → Outcome h m n (answered h m n)
 outcome h m n = one (ltb 16 h.count) refl
   where
@@ -78,12 +74,6 @@ outcome h m n = one (ltb 16 h.count) refl
     one : (b : Bool) → ltb 16 h.count ≡ b → Outcome h m n (answered h m n)
     one true e = let k = ltb-true 16 h.count e in refused (λ p. let s = p.few in omega arith) (sym (too_many h m n k))
     one false e = two (ltb-false 16 h.count e) (ltb 4294967295 m) refl
-
--- three ways in which the search ends
-pub data Ending (ws : List Window) (m n : ℕ) (a : Answer) : Type 0 where
-  now : (t : ℕ) → first_from (m % 10080) n ws ≡ found.At t → a ≡ At (m - m % 10080 + t) → Ending ws m n a
-  then : (t : ℕ) → first_from (m % 10080) n ws ≡ found.Nothing → first_from 0 n ws ≡ found.At t → a ≡ At (m - m % 10080 + 10080 + t) → Ending ws m n a
-  never : first_from 0 n ws ≡ found.Nothing → a ≡ Refused 22 → Ending ws m n a
 
 pub ending : (ws : List Window) (m n : ℕ) → Ending ws m n (searched ws m n)
 ending ws m n = one (first_from (m % 10080) n ws) refl

@@ -2,3 +2,4 @@ pub mod Hours
 pub mod Search
 pub mod Firsts
 pub mod Cases
+pub mod Theorem

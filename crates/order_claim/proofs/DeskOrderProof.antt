@@ -15,7 +15,8 @@ use Rattle.ledger.specs.Ledger.{Ledger, create}
 use Rattle.ledger.specs.Refusals.{checks, refusal}
 use Rattle.ledger.specs.Steps as Steps
 use Rattle.ledger.specs.Steps.{accept}
-use Rattle.sums.proofs.Marked.{WithoutConsequence, without_consequence}
+use Rattle.sums.specs.Marked.{WithoutConsequence}
+use Rattle.sums.proofs.Marked.{without_consequence}
 use Rattle.desk.specs.Desk.{BackCall, tick, block, Call, back, back_call, Reply, Desk, opened, drained, acts, carried_out, desk_refusal, decide, step, run}
 use Rattle.desk.specs.Claim.{DeskEngine, calls, desk_after, DeskClaim}
 use Rattle.desk.specs.DeskMeets.{desk_itself}

@@ -3,7 +3,8 @@ use Rattle.std.specs.Prelude.{ℕ, ◌^◌, ◌<◌, List}
 use Rattle.event.specs.declared.ReplayMode.{ReplayMode}
 use Rattle.ledger.specs.Calls.{Call}
 use Rattle.ledger.specs.Claim.{ledger_after, AllLend}
-use Rattle.sums.proofs.Engines.{SameSamples, same_samples_lem}
+use Rattle.sums.specs.Engines.{SameSamples}
+use Rattle.sums.proofs.Engines.{same_samples_lem}
 use Rattle.claim.specs.EngineCalls.{engine}
 use Rattle.claim.specs.CarriedOut.{after}
 use Rattle.claim.proofs.Theorem.{claim}

@@ -14,8 +14,9 @@ use Rattle.ready.proofs.HeapOrder.{perm_eq}
 use Rattle.ledger.specs.Calls.{Call}
 use Rattle.ledger.specs.Ledger.{Ledger, create}
 use Rattle.ledger.specs.Lists.{numbers}
-use Rattle.ledger.proofs.Sorted.{Sorted}
-use Rattle.ledger.proofs.Lawful.{Lawful, create_lawful, run_lawful}
+use Rattle.ledger.specs.Sorted.{Sorted}
+use Rattle.ledger.specs.Lawful.{Lawful}
+use Rattle.ledger.proofs.Lawful.{create_lawful, run_lawful}
 use Rattle.ledger.specs.Claim.{SameState, AllLend, ledger_after}
 use Rattle.sequencer.specs.declared.Sequencer.{Sequencer}
 use Rattle.claim.specs.View.{view_of}

@@ -11,7 +11,7 @@ use Rattle.event.specs.Events.{number_of, earlier}
 use Rattle.ledger.specs.Lists.{insert, insert_all, numbers}
 use Rattle.ready.specs.HeapOrder.{Order}
 use Rattle.ready.specs.Sorted.{earlier_order}
-use Rattle.ledger.proofs.Sorted.{Sorted}
+use Rattle.ledger.specs.Sorted.{Sorted}
 use Rattle.overlap.specs.Insertion.{insert_by, inserts_by, length_inserts_by, Ordered, ordered-stays, numbers_perm}
 
 abbrev pub Key : Type 0

@@ -1,5 +1,5 @@
 -- The claim. Since the last turn the row begins with what was fed; once there was a turn, the suffix maxima of what is left of the window before follow.
-use Rattle.std.specs.Prelude.{◌≡◌, refl, Bool, true, false, cond, ltb, leb, drop, replicate}
+use Rattle.std.specs.Prelude.{◌≡◌, refl, Bool, true, false, ltb, leb, drop, replicate}
 use Rattle.std.proofs.Math.Path.{sym, ap}
 use Rattle.std.proofs.Common.{◌∙◌, subst, ltb-true, ltb-false, leb-true, leb-false, length-append, get_or-take, take-suc-set, get_or-set_other}
 use mathlib.Core.List.{List, [], ◌∷◌, ◌++◌, map, foldl, foldl-append, map-append, append-nil, append_assoc}
@@ -15,6 +15,7 @@ use Rattle.peak.specs.Peaks.{magnitude, greatest, last_of, Feed, one, run, histo
 use Rattle.peak.specs.Steps.{State, state, empty, suffix_maxima, suffix_maxima_to, created, serves, refusal, advanced, fed, fed_all, older, reading}
 use Rattle.peak.specs.Claim.{step, Claim}
 use Rattle.peak.proofs.Turns.{too_small, too_large, too_few, in-limits, narrow, enough, last, goes_on, turns, length-suffix_maxima, length-suffix_maxima_to}
+use Rattle.peak.specs.Theorem.{Single, Keeps, Fresh, Holds, narrowest, roomy}
 
 -- ---- lists
 greatest-append : (a b : List ℕ) → greatest (a ++ b) ≡ max (greatest a) (greatest b)
@@ -60,12 +61,6 @@ last_one h m =
     let e : length (h ++ m ∷ []) - 1 ≡ length h + 0 = omega (arith, length-append h (m ∷ [])) in
     rw (e, drop-append-add h (m ∷ []) 0, max-zero m)
 
-record Single (s : State) (h : List ℕ) : Type 0 where
-  window : s.peak.window ≡ 1
-  place : s.peak.place ≡ 0
-  turned : s.peak.turned ≡ false
-  recent : s.peak.recent ≡ greatest (last_of 1 h)
-
 single-serves : (s : State) (h : List ℕ) → Single s h → serves s.peak (length s.row) ≡ true
 single-serves s h k = let x = k.window in let y = k.place in narrow s.peak (length s.row) (omega arith) (omega arith)
 
@@ -83,22 +78,6 @@ single-all s h (m ∷ ms) k = rw (append_snoc h m ms) at (single-all (fed s m) (
 single-reading : (s : State) (h : List ℕ) → Single s h → reading s ≡ Peak (greatest (last_of 1 h))
 unfolding reading older
 single-reading s h k = rw (single-serves s h k, k.turned, max-zero s.peak.recent, k.recent)
-
--- ---- a window above 1: what holds after the magnitudes h, w zeros being thought before them
-record Keeps (w : ℕ) (s : State) (h : List ℕ) : Type 0 where
-  before : List ℕ
-  previous : List ℕ
-  current : List ℕ
-  whole : replicate w 0 ++ h ≡ before ++ (previous ++ current)
-  full : length previous ≡ w
-  wide : 1 < w
-  room : length current < w
-  window : s.peak.window ≡ w
-  place : s.peak.place ≡ length current
-  recent : s.peak.recent ≡ greatest current
-  words : w ≤ length s.row
-  begins : take (length current) s.row ≡ current
-  follows : (i : ℕ) → length current ≤ i → i < w → cond s.peak.turned (get_or s.row i 0) 0 ≡ greatest (drop i previous)
 
 keeps-serves : (w : ℕ) (s : State) (h : List ℕ) → Keeps w s h → serves s.peak (length s.row) ≡ true
 keeps-serves w s h k =
@@ -252,11 +231,6 @@ steps-history s (run xs ∷ fs) =
     steps-history (fed_all s (map magnitude xs)) fs ∙ sym (foldl-append fed s (map magnitude xs) (map magnitude (history fs)))
     ∙ ap (fed_all s) (sym (map-append magnitude xs (history fs)))
 
--- a fresh one is empty; its window is 1, or the row has room for it
-data Fresh (w : ℕ) (row : List ℕ) : Type 0 where
-  narrowest : (created w (length row)).peak ≡ empty 1 → Fresh w row
-  roomy : (v : ℕ) → 1 < v → v ≤ length row → (created w (length row)).peak ≡ empty v → Fresh w row
-
 created-fresh : (w : ℕ) (row : List ℕ) → Fresh w row
 created-fresh w row = first (ltb w 1) refl
   where
@@ -278,11 +252,6 @@ created-fresh w row = first (ltb w 1) refl
     first : (t : Bool) → ltb w 1 ≡ t → Fresh w row
     first true e = narrowest (ap (λ o. o.peak) (too_small w n (ltb-true w 1 e)))
     first false e = second (ltb-false w 1 e) (ltb 4096 w) refl
-
--- what both fields say of the running peak p
-record Holds (p : RunningPeak) (row : List ℕ) (fs : List Feed) : Type 0 where
-  answer : reading (foldl step (state p row) fs) ≡ Peak (peak_of p.window fs)
-  taken : refusal (foldl step (state p row) fs).peak (length (foldl step (state p row) fs).row) ≡ 0
 
 -- told of the history
 told : (p : RunningPeak) (row : List ℕ) (fs : List Feed) → reading (fed_all (state p row) (map magnitude (history fs))) ≡ Peak (peak_of p.window fs)

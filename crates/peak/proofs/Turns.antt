@@ -1,5 +1,5 @@
 -- The branches of `created`, `serves` and `advanced`, and lengths: what the contracts' proofs cite.
-use Rattle.std.specs.Prelude.{◌≡◌, Bool, List, [], ◌∷◌, ℕ, suc, ◌+◌, ◌-◌, max, ◌≤◌, ◌<◌, ltb, leb, length, get_or, set, take, drop}
+use Rattle.std.specs.Prelude.{◌≡◌, Bool, List, [], ◌∷◌, ℕ, suc, ◌+◌, max, ◌≤◌, ◌<◌, ltb, leb, length, get_or, set, take, drop}
 use Rattle.std.proofs.Math.Path.{refl}
 use Rattle.std.proofs.Common.{sym, ap, ◌∙◌, true≢false, arith, length-take, length-drop, length-append, length-set}
 use Rattle.std.proofs.Math.Bool.{true, false, cond}
@@ -7,8 +7,10 @@ use borrow.Author.Tests.{lt-ltb, le-ltb, le-leb, lt-leb, ltb-true, ltb-false, le
 use Rattle.std.proofs.Math.ListN.{get_or-eq_default}
 use Rattle.peak.specs.declared.RunningPeak.{RunningPeak}
 use Rattle.peak.specs.Steps.{State, state, empty, suffix_maxima, suffix_maxima_to, created, serves, advanced, fed, older}
+use Rattle.peak.specs.Turns.{Next}
 
 -- ---- a fresh one
+
 module _ (w words : ℕ) where
   pub too_small : w < 1 → created w words ≡ record { peak = empty 1; refusal = 20 }
   unfolding created
@@ -27,6 +29,7 @@ module _ (w words : ℕ) where
   in-limits h k l = rw (le-ltb w 1 h, le-ltb 4096 w k, le-ltb words w l)
 
 -- ---- whether a row serves
+
 module _ (p : RunningPeak) (words : ℕ) where
   pub misplaced : p.window ≤ p.place → serves p words ≡ false
   unfolding serves
@@ -59,6 +62,7 @@ module _ (p : RunningPeak) (words : ℕ) where
   room h b = leb-true p.window words (sym (wide (inside h) b) ∙ h)
 
 -- ---- one magnitude
+
 module _ (p : RunningPeak) (row : List ℕ) (m : ℕ) where
   pub last : p.window ≤ 1 → advanced (state p row) m ≡ state (record { window = p.window; place = p.place; recent = m; turned = false }) row
   unfolding advanced
@@ -112,11 +116,6 @@ length-suffix_maxima (x ∷ l) = ap suc (length-suffix_maxima l)
 pub length-suffix_maxima_to : (n : ℕ) (l : List ℕ) → length (suffix_maxima_to n l) ≡ length l
 length-suffix_maxima_to n l =
     length-append (suffix_maxima (take n l)) (drop n l) ∙ rw (length-suffix_maxima (take n l), length-take n l, length-drop n l) (omega arith)
-
--- ---- after a magnitude the row is as long as before, and serves
-pub record Next (s : State) (m : ℕ) : Type 0 where
-  pub long : length (advanced s m).row ≡ length s.row
-  pub serving : serves (advanced s m).peak (length (advanced s m).row) ≡ true
 
 pub next : (s : State) (m : ℕ) → serves s.peak (length s.row) ≡ true → Next s m
 next s m h = first (leb s.peak.window 1) refl

@@ -14,7 +14,7 @@ use Rattle.ready.specs.Sift.{sink, parent}
 use Rattle.ready.specs.Waiting.{peeked, pushed, popped, emptied}
 use Rattle.ready.specs.HeapOrder.{Heap-ordered}
 use Rattle.ready.proofs.HeapOrder.{perm_eq, rise_moves, sink_moves, moves-length}
-use Rattle.ledger.proofs.Sorted.{Sorted}
+use Rattle.ledger.specs.Sorted.{Sorted}
 use Rattle.ready.specs.Sorted.{insert_perm, earlier_order}
 use Rattle.ready.specs.Stands.{Stands}
 use Rattle.ready.proofs.Stands.{stands-length, stands-push, stands_pop}

@@ -9,9 +9,10 @@ use mathlib.Core.List.{List, [], ◌∷◌, ◌++◌, Memᴰ, Perm}
 use Rattle.floats.specs.Sooner.{sooner_asymmetric, sooner_transitive, not-sooner_transitive, sooner-total}
 use Rattle.event.specs.declared.Event.{Event}
 use Rattle.event.specs.Events.{earlier, number_of}
-use Rattle.event.proofs.StartsFirst.{start_bits, Starts, numbered, numbers-late}
+use Rattle.event.specs.StartsFirst.{start_bits, Starts, numbered}
+use Rattle.event.proofs.StartsFirst.{numbers-late}
 use Rattle.ledger.specs.Lists.{insert}
-use Rattle.ledger.proofs.Sorted.{Sorted}
+use Rattle.ledger.specs.Sorted.{Sorted}
 use Rattle.ready.specs.HeapOrder.{Order}
 
 -- ---- the order of two events

@@ -1,5 +1,5 @@
 -- Laws of the handling of messages.
-use Rattle.std.specs.Prelude.{◌≡◌, ℕ, zero, suc, ◌-◌, ◌<◌, ◌≤◌, Bool, true, false, cond, ◌⊎◌, List, slice_index_or, refl}
+use Rattle.std.specs.Prelude.{◌≡◌, ℕ, zero, suc, ◌-◌, ◌<◌, Bool, true, false, cond, List, slice_index_or, refl}
 use Rattle.std.proofs.Common.{sym, ◌∙◌, inl, inr, ⊎_elim}
 use Rattle.std.proofs.Math.Path.{ap}
 use native.Mathlib.Omega.{arith}
@@ -16,6 +16,7 @@ use Rattle.realseq.specs.declared.queues.Returned.{Returned}
 use Rattle.realseq.specs.Queues.{is_reset, peeked, popped, sent}
 use Rattle.realseq.specs.Handling.{acted, sent_down, sent_ready, restarted, stepped, handled, drained, reset, taken, handled_until, until_reset}
 use Rattle.realseq.specs.QueueLaws.{popped_count, popped_slots}
+use Rattle.realseq.specs.HandlingLaws.{Settled}
 
 -- ---- none is queued
 
@@ -105,13 +106,6 @@ module _ (d : SequencerBackend) (some : d.messages.count ≡ 0 → ⊥) where
   unfolding reset taken
   drained-reset h = first_off ∙ ap (λ (b : Bool). cond b (restarted (drained (stepped d))) (drained (stepped d))) h
       ∙ ap (λ (s : Sequencer). restarted (drained (record { sequencer = s; messages = popped d.messages; returned = d.returned }))) (acted-reset (peeked d.messages) d.sequencer h)
-
--- ---- up to the first reset: none is queued then, or a reset is first, and what the messages come to is the same
-
-pub record Settled (d r : SequencerBackend) : Type 0 where
-  pub same : drained r ≡ drained d
-  pub less : r.messages.count ≤ d.messages.count
-  pub stops : (r.messages.count ≡ 0) ⊎ (is_reset (peeked r.messages) ≡ true)
 
 settled : (n : ℕ) (d : SequencerBackend) → d.messages.count ≡ n → Settled d (handled_until n d)
 unfolding handled_until

@@ -4,3 +4,4 @@ pub mod QueueLaws
 pub mod Handling
 pub mod Fronts
 pub mod Backs
+pub mod HandlingLaws

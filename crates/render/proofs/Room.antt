@@ -20,31 +20,7 @@ use Rattle.tape_extent.specs.Playing.{Played, play}
 use Rattle.tape_extent.specs.Extents as Extents
 use Rattle.tape_extent.specs.Extents.{nothing, longer, counted, ended_by, extent_from, whole_extent, counts64, extent_of}
 use Rattle.render.specs.Rendering.{Rest, after_record, after_read, rendered_from, rendered_with}
-
--- ---- the rest of a tape: its extent X, and its rendering R
-
--- the bytes never grow fewer
-abbrev Grows : Extents.Rest → Type 0
-Grows X = (l : Ledger) (c : Cursor) (x : Extent) → x.bytes ≤ (X l c x).bytes
-
--- where there is room for all, the bytes rendered are those counted
-abbrev Whole : Extents.Rest → Rest → Type 0
-Whole X R = (l : Ledger) (c : Cursor) (x : Extent) (room : ℕ) → (X l c x).bytes ≤ x.bytes + room → x.bytes + length (R l c room) ≡ (X l c x).bytes
-
--- and more room changes nothing
-abbrev Same : Extents.Rest → Rest → Type 0
-Same X R = (l : Ledger) (c : Cursor) (x : Extent) (room more : ℕ) → (X l c x).bytes ≤ x.bytes + room → (X l c x).bytes ≤ x.bytes + more → R l c room ≡ R l c more
-
-abbrev Within : Rest → Type 0
-Within R = (l : Ledger) (c : Cursor) (room : ℕ) → length (R l c room) ≤ room
-
--- ---- a record
-
--- a record that is not refused as 1
-abbrev heard_in : Rest → Played → (next : Cursor) → (room : ℕ) → List ℕ
-heard_in R p next room =
-    let bytes = bytes_of p.samples in
-    cond (ltb room (length bytes)) [] (bytes ++ R p.ledger next (room - length bytes))
+use Rattle.render.specs.Room.{Grows, Whole, Same, Within, heard_in}
 
 module _ (X : Extents.Rest) (call : Call) (p : Played) (next : Cursor) where
   grows_record : Grows X → (x : Extent) → x.bytes ≤ (Extents.after_record X call p next x).bytes

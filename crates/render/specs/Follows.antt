@@ -17,7 +17,8 @@ use Rattle.ledger.specs.Calls as Calls
 use Rattle.ledger.specs.Calls.{PushKind, absolute, relative, by_duration, EditKind, absolute_end, relative_end, tick, block, rate, reset}
 use Rattle.ledger.specs.Ledger.{Ledger, fresh, create}
 use Rattle.ledger.specs.Steps.{step}
-use Rattle.ledger.proofs.Lawful.{Lawful, create_lawful, step_lawful}
+use Rattle.ledger.specs.Lawful.{Lawful}
+use Rattle.ledger.proofs.Lawful.{create_lawful, step_lawful}
 use Rattle.sequencer.specs.declared.Sequencer.{Sequencer}
 use Rattle.sequencer.specs.declared.Outcome.{Outcome}
 use Rattle.sequencer.specs.declared.Answer.{Answer}
@@ -33,7 +34,8 @@ use Rattle.sequencer.specs.Resets.{rates, resets}
 use Rattle.claim.specs.Related.{Related}
 use Rattle.claim.specs.Creating.{related_creation}
 use Rattle.claim.specs.EngineCalls.{gives}
-use Rattle.claim.proofs.Steps.{Keeps, keep-push, keep-edit, keep_tick, keep-block, keep-rate, keep-reset}
+use Rattle.claim.specs.Steps.{Keeps}
+use Rattle.claim.proofs.Steps.{keep-push, keep-edit, keep_tick, keep-block, keep-rate, keep-reset}
 use Rattle.tape.specs.declared.reader.Call.{Call}
 use Rattle.tape.specs.declared.reader.Call.TheVariants.{Create, Push, PushRelative, PushDuration, Edit, EditRelative, Tick, Process, Reset, SetSampleRate}
 use Rattle.tape.specs.declared.reader.Cursor.{Cursor}

@@ -26,22 +26,11 @@ use Rattle.player.specs.Records.{Ran, stops, behind, left_by, after_call, after_
 use Rattle.resuming.specs.Again.{silence, again}
 use Rattle.resuming.proofs.Unrolls.{unrolls}
 use Rattle.resuming.proofs.Onward.{onward}
-
--- ---- a run of lines that stopped for room
-
-abbrev pub is_full : Pause → Bool
-is_full Full = true
-is_full Short = false
-is_full End = false
-is_full (Refused k) = false
+use Rattle.resuming.specs.Full.{is_full, Moved}
 
 module _ (pool : List Float) (tape : List ℕ) (whole : Bool) (s : Sequencer) (c : Cursor) (room : ℕ) (enough : 4716 ≤ room) where
-  -- it stopped for room, further on
-  abbrev pub Moved : Ran → Type 0
-  Moved r = is_full r.pause ≡ true → c.at < r.cursor.at
-
-  full-called : (kind : ℕ) (a : Applied) (x : List Float) (next : Cursor) → c.at < next.at
-      → Moved (after_call Lines (again Lines pool tape whole) s c kind a x next room)
+  pub full-called : (kind : ℕ) (a : Applied) (x : List Float) (next : Cursor) → c.at < next.at
+      → Moved c (after_call Lines (again Lines pool tape whole) s c kind a x next room)
   unfolding after_call
   full-called kind a x next on = go (ltb room 4716) (le-ltb room 4716 enough) (eqb a.refusal 1)
     where
@@ -51,21 +40,7 @@ module _ (pool : List Float) (tape : List ℕ) (whole : Bool) (s : Sequencer) (c
       rest : Ran
       rest = ran Lines pool tape whole a.sequencer next (room - length bytes)
 
-      go : (p : Bool) → p ≡ false → (q : Bool) → Moved (cond p (stops s c [] Full) (cond q (stops a.sequencer next bytes (Refused 1)) (behind bytes rest)))
+      go : (p : Bool) → p ≡ false → (q : Bool) → Moved c (cond p (stops s c [] Full) (cond q (stops a.sequencer next bytes (Refused 1)) (behind bytes rest)))
       go true e q = absurd (true≢false e)
       go false e true = λ f. absurd (false≢true f)
       go false e false = λ f. let m = (onward Lines pool tape whole a.sequencer next (room - length bytes)).0 in omega arith
-
-  pub full-read : (r : Read) → r ≡ read_at tape c → Moved (after_read Lines pool (again Lines pool tape whole) r s c silence room)
-  unfolding after_read ending
-  full-read (Read.Record kind call next) e =
-      full-called kind (applied_to pool s call silence) (applied_out pool s call silence) next (moves tape c kind call next (sym e)).1
-  full-read (Read.Refused kind n) e = go (ltb room 4716) (le-ltb room 4716 enough)
-    where
-      stop : Bool → Ending
-      stop p = cond p (record { written = []; pause = Full }) (record { written = refused_line Lines kind n (counts_of s); pause = Refused n })
-
-      go : (p : Bool) → p ≡ false → Moved (stops s c (stop p).written (stop p).pause)
-      go true e = absurd (true≢false e)
-      go false e = λ f. absurd (false≢true f)
-  full-read Read.End e = λ f. absurd (false≢true f)

@@ -2,9 +2,9 @@
 pub mod Samples
 pub mod Fuel
 pub mod Unrolls
-pub mod Resuming
+pub mod FullMoves
 pub mod Moved
 pub mod Onward
 pub mod Reasons
 pub mod Full
-pub mod FullMoves
+pub mod Resuming

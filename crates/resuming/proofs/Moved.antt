@@ -8,7 +8,6 @@ use Rattle.sequencer.specs.declared.Sequencer.{Sequencer}
 use Rattle.tape.specs.declared.reader.Cursor.{Cursor}
 use Rattle.tape.specs.declared.reader.Call.{Call}
 use Rattle.tape.specs.declared.reader.Read.{Read}
-use Rattle.tape.specs.declared.reader.Read.TheVariants as Read
 use Rattle.tape.specs.Tape.{read_at, record_of, unknown, kind_of, size_of, call_of}
 use Rattle.apply.specs.declared.Applied.{Applied}
 use Rattle.apply.specs.Applying.{applied_to, applied_out}
@@ -20,19 +19,7 @@ use Rattle.player.specs.Records.{Ran, stops, behind, left_by, after_call, after_
 use Rattle.tape.specs.Cursors.{moves}
 use Rattle.resuming.specs.Again.{silence, again}
 use Rattle.resuming.proofs.Unrolls.{unrolls}
-
--- a cursor with k bytes fewer before it, and what the records leave, with such a cursor
-abbrev pub back : (k : ℕ) → Cursor → Cursor
-back k c = record { at = c.at - k; first = c.first }
-
-abbrev pub cursor_back : (k : ℕ) → Ran → Ran
-cursor_back k r = stops r.sequencer (back k r.cursor) r.written r.pause
-
--- what is read with such a cursor
-abbrev read_back : (k : ℕ) → Read → Read
-read_back k (Read.Record kind call next) = Read.Record kind call (back k next)
-read_back k (Read.Refused kind n) = Read.Refused kind n
-read_back k Read.End = Read.End
+use Rattle.resuming.specs.Moved.{back, cursor_back, read_back, Moves}
 
 -- ---- the same is read
 
@@ -78,11 +65,7 @@ short_back k false tape c h =
 -- ---- the same is left
 
 module _ (form : Form) (pool : List Float) (k : ℕ) (tape : List ℕ) (whole : Bool) where
-  -- the law at an engine and a cursor
-  abbrev pub Moves : Sequencer → Cursor → (room : ℕ) → Type 0
-  Moves s c room = ran form pool (drop k tape) whole s (back k c) room ≡ cursor_back k (ran form pool tape whole s c room)
-
-  called : (s : Sequencer) (c : Cursor) (kind : ℕ) (a : Applied) (x : List Float) (next : Cursor) (room : ℕ) → ((t : Sequencer) (left : ℕ) → Moves t next left)
+  called : (s : Sequencer) (c : Cursor) (kind : ℕ) (a : Applied) (x : List Float) (next : Cursor) (room : ℕ) → ((t : Sequencer) (left : ℕ) → Moves form pool k tape whole t next left)
       → after_call form (again form pool (drop k tape) whole) s (back k c) kind a x (back k next) room ≡ cursor_back k (after_call form (again form pool tape whole) s c kind a x next room)
   unfolding after_call
   called s c kind a x next room law = go (ltb room (room_for form bytes)) (eqb a.refusal 1)
@@ -99,14 +82,14 @@ module _ (form : Form) (pool : List Float) (k : ℕ) (tape : List ℕ) (whole : 
       go false true = refl
       go false false = ap (behind bytes) (law a.sequencer (room - length bytes))
 
-  read : (r : Read) (s : Sequencer) (c : Cursor) (room : ℕ) → ((kind : ℕ) (call : Call) (next : Cursor) → r ≡ Read.Record kind call next → (t : Sequencer) (left : ℕ) → Moves t next left)
+  read : (r : Read) (s : Sequencer) (c : Cursor) (room : ℕ) → ((kind : ℕ) (call : Call) (next : Cursor) → r ≡ Read.Record kind call next → (t : Sequencer) (left : ℕ) → Moves form pool k tape whole t next left)
       → after_read form pool (again form pool (drop k tape) whole) (read_back k r) s (back k c) silence room ≡ cursor_back k (after_read form pool (again form pool tape whole) r s c silence room)
   unfolding after_read ending
   read (Read.Record kind call next) s c room law = called s c kind (applied_to pool s call silence) (applied_out pool s call silence) next room (law kind call next refl)
   read (Read.Refused kind n) s c room law = refl
   read Read.End s c room law = refl
 
-  step : (s : Sequencer) (c : Cursor) (room : ℕ) → k ≤ c.at → ((kind : ℕ) (call : Call) (next : Cursor) → read_at tape c ≡ Read.Record kind call next → (t : Sequencer) (left : ℕ) → Moves t next left) → Moves s c room
+  step : (s : Sequencer) (c : Cursor) (room : ℕ) → k ≤ c.at → ((kind : ℕ) (call : Call) (next : Cursor) → read_at tape c ≡ Read.Record kind call next → (t : Sequencer) (left : ℕ) → Moves form pool k tape whole t next left) → Moves form pool k tape whole s c room
   step s c room h law =
       unrolls form pool (drop k tape) whole s (back k c) room
       ∙ (λ i. cond (short_back k whole tape c h i) (stops s (back k c) [] Short) (after_read form pool (again form pool (drop k tape) whole) (read_back_lem k tape c h i) s (back k c) silence room))
@@ -121,10 +104,10 @@ module _ (form : Form) (pool : List Float) (k : ℕ) (tape : List ℕ) (whole : 
       go true = refl
       go false = refl
 
-  by_bytes : (n : ℕ) (s : Sequencer) (c : Cursor) (room : ℕ) → k ≤ c.at → length tape ≤ c.at + n → Moves s c room
+  by_bytes : (n : ℕ) (s : Sequencer) (c : Cursor) (room : ℕ) → k ≤ c.at → length tape ≤ c.at + n → Moves form pool k tape whole s c room
   by_bytes zero s c room h l = step s c room h (λ kind call next e t left. let m = moves tape c kind call next e in absurd (omega arith))
   by_bytes (suc n) s c room h l = step s c room h (λ kind call next e t left. let m = moves tape c kind call next e in by_bytes n t next left (omega arith) (omega arith))
 
   -- ---- the law: k bytes may be dropped that stand before the cursor
-  pub moved : (s : Sequencer) (c : Cursor) (room : ℕ) → k ≤ c.at → Moves s c room
+  pub moved : (s : Sequencer) (c : Cursor) (room : ℕ) → k ≤ c.at → Moves form pool k tape whole s c room
   moved s c room h = by_bytes (length tape) s c room h (omega arith)

@@ -1,49 +1,34 @@
 -- A run's cursor goes on and stays within its tape. A run of lines that stopped for room, lent as much as any record may take, has read one.
 -- Assumes nothing.
 use Rattle.std.specs.Prelude.{◌≡◌, refl, true, false, ltb, eqb, Float, length}
-use Rattle.std.proofs.Common.{sym, ap, subst, true≢false, le-ltb}
+use Rattle.std.proofs.Common.{sym, subst}
 use Rattle.std.proofs.Math.Bool.{Bool, cond}
-use Rattle.std.proofs.lemmas.Bool.{false≢true}
 use mathlib.Core.List.{List, []}
 use Prim.Native.Nat.{ℕ, zero, suc, ◌+◌, ◌-◌, ◌≤◌, ◌<◌}
 use native.Mathlib.Omega.{arith}
 use Rattle.sequencer.specs.declared.Sequencer.{Sequencer}
-use Rattle.sequencer.specs.Readers.{counts_of}
 use Rattle.tape.specs.declared.reader.Cursor.{Cursor}
-use Rattle.tape.specs.declared.reader.Call.{Call}
 use Rattle.tape.specs.declared.reader.Read.{Read}
-use Rattle.tape.specs.declared.reader.Read.TheVariants as Read
 use Rattle.tape.specs.Tape.{read_at}
 use Rattle.tape.specs.Cursors.{moves}
 use Rattle.apply.specs.declared.Applied.{Applied}
 use Rattle.apply.specs.Applying.{applied_to, applied_out}
 use Rattle.record_output.specs.declared.Form.{Form}
-use Rattle.record_output.specs.declared.Form.TheVariants.{Lines}
 use Rattle.record_output.specs.declared.Pause.{Pause}
-use Rattle.record_output.specs.declared.Pause.TheVariants.{End, Refused, Full, Short}
+use Rattle.record_output.specs.declared.Pause.TheVariants.{Refused, Full, Short}
 use Rattle.record_output.specs.Lines.{room_for}
-use Rattle.record_output.specs.Endings.{Ending, refused_line, ending, is_short}
+use Rattle.record_output.specs.Endings.{ending, is_short}
 use Rattle.player.specs.Records.{Ran, stops, behind, left_by, after_call, after_read, ran}
 use Rattle.resuming.specs.Again.{silence, again}
 use Rattle.resuming.proofs.Unrolls.{unrolls}
-
--- of a tape of n bytes, what a run from a cursor leaves
-abbrev pub Onward : (n : ℕ) → Cursor → Ran → Type 0
-Onward n c r = (c.at ≤ r.cursor.at) × (c.at ≤ n → r.cursor.at ≤ n)
+use Rattle.resuming.specs.Onward.{Onward, LaterFrom, Later}
 
 stays : (n : ℕ) (s : Sequencer) (c : Cursor) (w : List ℕ) (p : Pause) → Onward n c (stops s c w p)
 stays n s c w p = (omega arith, λ h. h)
 
 module _ (form : Form) (pool : List Float) (tape : List ℕ) (whole : Bool) where
-  -- the law behind a record
-  abbrev LaterFrom : Cursor → Type 0
-  LaterFrom next = (t : Sequencer) (left : ℕ) → Onward (length tape) next (ran form pool tape whole t next left)
-
-  abbrev Later : Read → Type 0
-  Later r = (kind : ℕ) (call : Call) (next : Cursor) → r ≡ Read.Record kind call next → LaterFrom next
-
   called : (s : Sequencer) (c : Cursor) (kind : ℕ) (a : Applied) (x : List Float) (next : Cursor) (room : ℕ) → c.at < next.at → next.at ≤ length tape
-      → LaterFrom next → Onward (length tape) c (after_call form (again form pool tape whole) s c kind a x next room)
+      → LaterFrom form pool tape whole next → Onward (length tape) c (after_call form (again form pool tape whole) s c kind a x next room)
   unfolding after_call
   called s c kind a x next room on in-tape law = go (ltb room (room_for form bytes)) (eqb a.refusal 1)
     where
@@ -58,7 +43,7 @@ module _ (form : Form) (pool : List Float) (tape : List ℕ) (whole : Bool) wher
       go false true = (omega arith, λ h. in-tape)
       go false false = let m = law a.sequencer (room - length bytes) in (omega (arith, m.0), λ h. m.1 in-tape)
 
-  read : (r : Read) (s : Sequencer) (c : Cursor) (room : ℕ) → r ≡ read_at tape c → Later r
+  read : (r : Read) (s : Sequencer) (c : Cursor) (room : ℕ) → r ≡ read_at tape c → Later form pool tape whole r
       → Onward (length tape) c (after_read form pool (again form pool tape whole) r s c silence room)
   unfolding after_read ending
   read (Read.Record kind call next) s c room e law =
@@ -67,7 +52,7 @@ module _ (form : Form) (pool : List Float) (tape : List ℕ) (whole : Bool) wher
   read (Read.Refused kind n) s c room e law = (omega arith, λ h. h)
   read Read.End s c room e law = (omega arith, λ h. h)
 
-  step : (s : Sequencer) (c : Cursor) (room : ℕ) → Later (read_at tape c) → Onward (length tape) c (ran form pool tape whole s c room)
+  step : (s : Sequencer) (c : Cursor) (room : ℕ) → Later form pool tape whole (read_at tape c) → Onward (length tape) c (ran form pool tape whole s c room)
   step s c room law = subst (Onward (length tape) c) (sym (unrolls form pool tape whole s c room)) (go (is_short whole (length tape) c.at))
     where
       first : Ran

@@ -11,12 +11,10 @@ use Rattle.sequencer.specs.Readers.{counts_of}
 use Rattle.tape.specs.declared.reader.Cursor.{Cursor}
 use Rattle.tape.specs.declared.reader.Call.{Call}
 use Rattle.tape.specs.declared.reader.Read.{Read}
-use Rattle.tape.specs.declared.reader.Read.TheVariants as Read
 use Rattle.tape.specs.Tape.{read_at, record_of, unknown, kind_of, size_of, call_of}
 use Rattle.apply.specs.declared.Applied.{Applied}
 use Rattle.apply.specs.Applying.{applied_to, applied_out}
 use Rattle.record_output.specs.declared.Form.{Form}
-use Rattle.record_output.specs.declared.Pause.{Pause}
 use Rattle.record_output.specs.declared.Pause.TheVariants.{End, Refused, Full, Short}
 use Rattle.record_output.specs.Lines.{room_for}
 use Rattle.record_output.specs.Endings.{Ending, refused_line, ending, is_short}
@@ -24,17 +22,7 @@ use Rattle.player.specs.Records.{Ran, stops, behind, left_by, after_call, after_
 use Rattle.tape.specs.Cursors.{moves}
 use Rattle.resuming.specs.Again.{silence, again}
 use Rattle.resuming.proofs.Unrolls.{unrolls}
-
--- the reasons that a run can give, by what it is told of its tape
-abbrev pub Possible : (whole : Bool) → Pause → Type 0
-Possible true End = Unit {0}
-Possible true (Refused k) = Unit {0}
-Possible true Full = Unit {0}
-Possible true Short = ⊥
-Possible false End = ⊥
-Possible false (Refused k) = Unit {0}
-Possible false Full = Unit {0}
-Possible false Short = Unit {0}
+use Rattle.resuming.specs.Reasons.{Possible, is_end}
 
 full : (whole : Bool) → Possible whole Full
 full true = tt
@@ -43,13 +31,6 @@ full false = tt
 refused : (whole : Bool) (k : ℕ) → Possible whole (Refused k)
 refused true k = tt
 refused false k = tt
-
--- ---- where 47 bytes are left, or one, the tape is not at its end
-
-abbrev is_end : Read → Bool
-is_end (Read.Record k call next) = false
-is_end (Read.Refused k n) = false
-is_end Read.End = true
 
 record_no_end : (c : Cursor) (bs : List ℕ) → is_end (record_of c bs) ≡ false
 unfolding record_of

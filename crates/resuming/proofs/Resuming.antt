@@ -8,15 +8,12 @@ use Prim.Native.Nat.{ℕ, zero, suc, ◌+◌, ◌-◌, ◌≤◌}
 use Rattle.sequencer.specs.declared.Sequencer.{Sequencer}
 use Rattle.sequencer.specs.Readers.{counts_of}
 use Rattle.tape.specs.declared.reader.Cursor.{Cursor}
-use Rattle.tape.specs.declared.reader.Call.{Call}
 use Rattle.tape.specs.declared.reader.Read.{Read}
-use Rattle.tape.specs.declared.reader.Read.TheVariants as Read
 use Rattle.tape.specs.Tape.{read_at}
 use Rattle.apply.specs.declared.Applied.{Applied}
 use Rattle.apply.specs.Applying.{applied_to, applied_out}
 use Rattle.record_output.specs.declared.Form.{Form}
-use Rattle.record_output.specs.declared.Pause.{Pause}
-use Rattle.record_output.specs.declared.Pause.TheVariants.{End, Refused, Full, Short}
+use Rattle.record_output.specs.declared.Pause.TheVariants.{Refused, Full, Short}
 use Rattle.record_output.specs.Lines.{room_for}
 use Rattle.record_output.specs.Endings.{Ending, refused_line, ending, is_short}
 use Rattle.player.specs.Records.{Ran, stops, behind, left_by, after_call, after_read, ran}
@@ -25,6 +22,7 @@ use Rattle.resuming.specs.Parts.{AtHand, same_read}
 use Rattle.resuming.specs.Again.{silence, again}
 use Rattle.resuming.proofs.Unrolls.{unrolls}
 use Rattle.resuming.specs.Resumes.{waits, room_after, resumed, Resumes}
+use Rattle.resuming.specs.Resuming.{Behind}
 
 -- ---- its steps
 
@@ -47,10 +45,6 @@ module _ (form : Form) (pool : List Float) (tape : List ℕ) where
           ap (λ (left : ℕ). behind bytes (behind r.written (on left))) z
           ∙ ap (λ (w : List ℕ). stops x.sequencer x.cursor w x.pause) (sym (append_assoc bytes r.written x.written))
       go false = refl
-
-  -- the law behind a record
-  abbrev Behind : (part : List ℕ) → (whole : Bool) → Read → Type 0
-  Behind part whole r = (k : ℕ) (call : Call) (next : Cursor) → r ≡ Read.Record k call next → (t : Sequencer) (left rest : ℕ) → left ≤ rest → Resumes form pool part whole tape t next left rest
 
   -- one record
   module _ (part : List ℕ) (whole : Bool) (s : Sequencer) (c : Cursor) (room all : ℕ) (more : room ≤ all) where
@@ -86,7 +80,7 @@ module _ (form : Form) (pool : List Float) (tape : List ℕ) where
         go true q = from_here s c all
         go false q = e ∙ ap (λ (b : Bool). cond b (stops s c [] Full) (on (eqb a.refusal 1) ours)) (roomy (room_for form bytes) q) ∙ goes (eqb a.refusal 1)
 
-    read : (r : Read) → r ≡ read_at tape c → Behind part whole r → ran form pool tape true s c all ≡ resumed form pool tape all (after_read form pool (again form pool part whole) r s c silence room)
+    read : (r : Read) → r ≡ read_at tape c → Behind form pool tape part whole r → ran form pool tape true s c all ≡ resumed form pool tape all (after_read form pool (again form pool part whole) r s c silence room)
     unfolding after_read ending
     read (Read.Record k call next) e law = called k next (applied_to pool s call silence) (applied_out pool s call silence) (on_tape (Read.Record k call next) e) (law k call next refl)
     read (Read.Refused k n) e law = go (ltb room (room_for form [])) refl
@@ -103,7 +97,7 @@ module _ (form : Form) (pool : List Float) (tape : List ℕ) where
 
   -- every record: the bytes left of the part become fewer
   module _ (part : List ℕ) (whole : Bool) (hand : AtHand part whole tape) where
-    step : (s : Sequencer) (c : Cursor) (room all : ℕ) → room ≤ all → Behind part whole (read_at part c) → Resumes form pool part whole tape s c room all
+    step : (s : Sequencer) (c : Cursor) (room all : ℕ) → room ≤ all → Behind form pool tape part whole (read_at part c) → Resumes form pool part whole tape s c room all
     step s c room all more law = go (is_short whole (length part) c.at) refl ∙ ap (resumed form pool tape all) (sym (unrolls form pool part whole s c room))
       where
         go : (b : Bool) → is_short whole (length part) c.at ≡ b

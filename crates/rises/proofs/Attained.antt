@@ -92,7 +92,7 @@ module _ (n m : ℕ) (small : n ≤ 256) (left : m < n) (s : Sequencer) (l : Lai
         (λ i a b. let k = l.late i (omega (arith, l.waiting)) in (k.0, k.1, omega (arith, k.2), k.3)) (n - suc m, starts, omega arith, omega arith) j (omega (arith, l.waiting));
   })
 
-  one-push : (Next n m small left s l) (pushed_by s (p n m small left s l))
+  one-push : Next n m small left s l (pushed_by s (p n m small left s l))
   unfolding admitted
   one-push = subst (Next n m small left s l) (sym (push-is s (p n m small left s l) true (eq-eqb (no_of s (p n m small left s l)) 0 no_refusal))) (refl, rises, after)
 

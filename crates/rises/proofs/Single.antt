@@ -44,11 +44,11 @@ module _ (s : Sequencer) (e : Event) where
   unfolding pushed_ready pushed
   one_more h = rw h (add-one (n s e))
 
-  as_many : ltb (n s e) 256 ≡ false → (pushed_ready s e).ready_len ≡ (n s e)
+  as_many : ltb (n s e) 256 ≡ false → (pushed_ready s e).ready_len ≡ n s e
   unfolding pushed_ready pushed
   as_many h = rw h
 
-  ready_bounded : (b : Bool) → nat_lt (n s e) 256 ≡ b → (Bounded s e) (rise_ready s e) (pushed_ready s e)
+  ready_bounded : (b : Bool) → nat_lt (n s e) 256 ≡ b → Bounded s e (rise_ready s e) (pushed_ready s e)
   unfolding bound
   ready_bounded true h =
       let a = levels_most earlier blank s.ready (n s e) e in
@@ -58,19 +58,19 @@ module _ (s : Sequencer) (e : Event) where
       let r = none_of h in
       rw (as_many h) (omega (arith, r), omega arith)
 
-  active_waits : (pushed_active s e).ready_len ≡ (n s e)
+  active_waits : (pushed_active s e).ready_len ≡ n s e
   unfolding pushed_active
   active_waits = go (nat_lt s.active_len 256)
     where
-      go : (b : Bool) → (cond b (with_active s (slice_set s.active s.active_len e) (slice_set s.active_map s.active_len e.id) (s.active_len + 1)) s).ready_len ≡ (n s e)
+      go : (b : Bool) → (cond b (with_active s (slice_set s.active s.active_len e) (slice_set s.active_map s.active_len e.id) (s.active_len + 1)) s).ready_len ≡ n s e
       go true = refl
       go false = refl
 
-  pub event-bounded : (Bounded s e) (rise_of s e) (pushed_event s e)
+  pub event-bounded : Bounded s e (rise_of s e) (pushed_event s e)
   unfolding rise_of pushed_event
   event-bounded = go (lt e.start_time s.active_threshold)
     where
-      go : (b : Bool) → (Bounded s e) (cond b 0 (rise_ready s e)) (cond b (pushed_active s e) (pushed_ready s e))
+      go : (b : Bool) → Bounded s e (cond b 0 (rise_ready s e)) (cond b (pushed_active s e) (pushed_ready s e))
       go true = rw active_waits (omega arith, omega arith)
       go false = ready_bounded (nat_lt (n s e) 256) refl
 

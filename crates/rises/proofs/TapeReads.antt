@@ -35,7 +35,7 @@ module _ (a : Arguments) (t : Typed a) (known : undefined a ≡ false) (front re
       enough_rest (tape a t known front rest at place) at (size_of a.kind) (omega (arith, x, place)) (omega (arith, x, y, place, long))
 
   -- written once more, it changes nothing
-  again : buffer_after a (tape a t known front rest at place) at ≡ (tape a t known front rest at place)
+  again : buffer_after a (tape a t known front rest at place) at ≡ tape a t known front rest at place
   again =
       (accepted a (tape a t known front rest at place) at known room).1
       ∙ ap (λ (l : List ℕ). l ++ bytes_of a ++ drop (at + length (bytes_of a)) (tape a t known front rest at place)) taken

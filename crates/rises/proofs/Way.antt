@@ -99,9 +99,9 @@ way-length i = go i i ∙ log2_is i (suc i) (omega arith)
 -- ---- the events on it
 
 module _ {A : Type 0} (less : A → A → Bool) (z : A) where
-  later_on : (p : ℕ) (ps : List ℕ) (xs : List A) (e : A) (b : Bool) → less e (slice_index_or xs p z) ≡ b → (later_at less z) (p ∷ ps) xs e ≡ cond b (suc ((later_at less z) ps xs e)) ((later_at less z) ps xs e)
+  later_on : (p : ℕ) (ps : List ℕ) (xs : List A) (e : A) (b : Bool) → less e (slice_index_or xs p z) ≡ b → later_at less z (p ∷ ps) xs e ≡ cond b (suc (later_at less z ps xs e)) (later_at less z ps xs e)
   unfolding later_at
-  later_on p ps xs e b h = ap (λ (b : Bool). cond b (suc ((later_at less z) ps xs e)) ((later_at less z) ps xs e)) h
+  later_on p ps xs e b h = ap (λ (b : Bool). cond b (suc (later_at less z ps xs e)) (later_at less z ps xs e)) h
 
   -- no event rises further than the way is long
   pub levels_most : (xs : List A) (i : ℕ) (e : A) → levels less z i xs i e ≤ floor_log2 (suc i)
@@ -132,31 +132,31 @@ module _ {A : Type 0} (less : A → A → Bool) (z : A) where
 
   -- in a heap what e passes on its way up are all the events there that come after it
   module _ (ord : Order less) (xs : List A) (n : ℕ) (heap : Heap-ordered less z xs n) (e : A) where
-    none-later : (f i : ℕ) → i < n → less e (slice_index_or xs i z) ≡ false → (later_at less z) (way_up f i) xs e ≡ 0
+    none-later : (f i : ℕ) → i < n → less e (slice_index_or xs i z) ≡ false → later_at less z (way_up f i) xs e ≡ 0
     unfolding way_up later_at Heap-ordered
     none-later zero i h q = refl
     none-later (suc f) i h q = at (dec_lt 0 i) (none-later f (parent i) (omega arith))
       where
-        at : Dec (0 < i) → (less e (slice_index_or xs (parent i) z) ≡ false → (later_at less z) (way_up f (parent i)) xs e ≡ 0) → (later_at less z) (way_up (suc f) i) xs e ≡ 0
-        at (no k) ih = ap (λ (w : List ℕ). (later_at less z) w xs e) (way_root (suc f) i (omega arith))
+        at : Dec (0 < i) → (less e (slice_index_or xs (parent i) z) ≡ false → later_at less z (way_up f (parent i)) xs e ≡ 0) → later_at less z (way_up (suc f) i) xs e ≡ 0
+        at (no k) ih = ap (λ (w : List ℕ). later_at less z w xs e) (way_root (suc f) i (omega arith))
         at (yes k) ih =
             let above : less e (slice_index_or xs (parent i) z) ≡ false = ord.on (slice_index_or xs (parent i) z) (slice_index_or xs i z) e (heap i k h) q in
-            ap (λ (w : List ℕ). (later_at less z) w xs e) (way_on f i k) ∙ later_on (parent i) (way_up f (parent i)) xs e false above ∙ ih above
+            ap (λ (w : List ℕ). later_at less z w xs e) (way_on f i k) ∙ later_on (parent i) (way_up f (parent i)) xs e false above ∙ ih above
 
-    pub levels_on_way : (i : ℕ) → i ≤ n → levels less z i xs i e ≡ (later_at less z) (way_up i i) xs e
+    pub levels_on_way : (i : ℕ) → i ≤ n → levels less z i xs i e ≡ later_at less z (way_up i i) xs e
     unfolding levels way_up later_at
     levels_on_way i h = go i i h
       where
-        go : (f i : ℕ) → i ≤ n → levels less z f xs i e ≡ (later_at less z) (way_up f i) xs e
+        go : (f i : ℕ) → i ≤ n → levels less z f xs i e ≡ later_at less z (way_up f i) xs e
         go zero i h = refl
         go (suc f) i h = at (dec_lt 0 i) (less e (slice_index_or xs (parent i) z)) refl (go f (parent i) (omega arith))
           where
-            at : Dec (0 < i) → (b : Bool) → less e (slice_index_or xs (parent i) z) ≡ b → levels less z f xs (parent i) e ≡ (later_at less z) (way_up f (parent i)) xs e → levels less z (suc f) xs i e ≡ (later_at less z) (way_up (suc f) i) xs e
-            at (no k) b q ih = levels_root less z (suc f) xs i e (omega arith) ∙ sym (ap (λ (w : List ℕ). (later_at less z) w xs e) (way_root (suc f) i (omega arith)))
+            at : Dec (0 < i) → (b : Bool) → less e (slice_index_or xs (parent i) z) ≡ b → levels less z f xs (parent i) e ≡ later_at less z (way_up f (parent i)) xs e → levels less z (suc f) xs i e ≡ later_at less z (way_up (suc f) i) xs e
+            at (no k) b q ih = levels_root less z (suc f) xs i e (omega arith) ∙ sym (ap (λ (w : List ℕ). later_at less z w xs e) (way_root (suc f) i (omega arith)))
             at (yes k) false q ih =
-                levels_stop less z (suc f) xs i e q ∙ sym (ap (λ (w : List ℕ). (later_at less z) w xs e) (way_on f i k) ∙ later_on (parent i) (way_up f (parent i)) xs e false q ∙ none-later f (parent i) (omega arith) q)
+                levels_stop less z (suc f) xs i e q ∙ sym (ap (λ (w : List ℕ). later_at less z w xs e) (way_on f i k) ∙ later_on (parent i) (way_up f (parent i)) xs e false q ∙ none-later f (parent i) (omega arith) q)
             at (yes k) true q ih =
-                levels-turn less z f xs i e k q ∙ ap suc ih ∙ sym (ap (λ (w : List ℕ). (later_at less z) w xs e) (way_on f i k) ∙ later_on (parent i) (way_up f (parent i)) xs e true q)
+                levels-turn less z f xs i e k q ∙ ap suc ih ∙ sym (ap (λ (w : List ℕ). later_at less z w xs e) (way_on f i k) ∙ later_on (parent i) (way_up f (parent i)) xs e true q)
 
 module _ {A : Type 0} (less : A → A → Bool) (z : A) (P : A → Type 0) where
   set_keeps : (n : ℕ) (xs : List A) (i : ℕ) (e : A) → i < n → n ≤ length xs → ((j : ℕ) → j < n → (j ≢ i) → P (slice_index_or xs j z)) → P e → (j : ℕ) → j < n → P (slice_index_or (slice_set xs i e) j z)

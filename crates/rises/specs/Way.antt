@@ -1,14 +1,6 @@
 -- The way up in a heap's array: its places, how many they are, and which events on it come after a new one. In a heap these are the first ones on the way. Assumes nothing.
-use Rattle.std.specs.Prelude.{◌≡◌, ℕ, zero, suc, ◌+◌, ◌*◌, ◌/◌, ◌^◌, ◌<◌, ◌≤◌, Bool, true, false, cond, ◌&&◌, List, [], ◌∷◌, length, ◌≢◌, nat_lt, slice_index_or, slice_set}
-use Rattle.std.proofs.Math.Path.{refl, sym, ap}
-use Rattle.std.proofs.Common.{◌∙◌, subst, pow-suc, get_or-set_same, get_or-set_other, lt-ltb, le-ltb}
-use native.Mathlib.Omega.{arith}
-use Rattle.std.proofs.Math.Decide.{ℕ_discrete, dec_lt}
-use Rattle.std.proofs.Math.ListN.{length-set}
-use Rattle.ready.specs.Sift.{parent, rise}
-use Rattle.ready.proofs.Steps.{rise_root, rise_stop, rise_turn}
-use Rattle.ready.specs.HeapOrder.{Order, Heap-ordered}
-use Rattle.ready.specs.Levels.{levels, levels_root, levels_stop, levels-turn}
+use Rattle.std.specs.Prelude.{ℕ, zero, suc, ◌/◌, Bool, cond, List, [], ◌∷◌, nat_lt, slice_index_or}
+use Rattle.ready.specs.Sift.{parent}
 
 -- ---- floor(log2 k): how often k can be halved, down to 1
 

@@ -11,9 +11,10 @@ use Rattle.ledger.specs.Calls.{Call}
 use Rattle.ledger.specs.Lists.{has, numbers}
 use Rattle.ledger.specs.Ledger.{Ledger}
 use Rattle.ledger.proofs.Sums.{number_sum_append, number_sum_numbers, event_sum_perm}
-use Rattle.ledger.proofs.Conservation.{by_number}
+use Rattle.ledger.specs.Conservation.{by_number}
 use Rattle.ledger.specs.Claim.{accepted, among, times, SameState, AllLend, engine_after, ledger_after}
-use Rattle.ledger.proofs.Partition.{is, times-is, once_or_never}
+use Rattle.ledger.specs.Partition.{is}
+use Rattle.ledger.proofs.Partition.{times-is, once_or_never}
 use Rattle.sequencer.specs.declared.Sequencer.{Sequencer}
 use Rattle.claim.specs.View.{view_of}
 use Rattle.claim.specs.EngineCalls.{engine}

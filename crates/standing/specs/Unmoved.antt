@@ -20,9 +20,11 @@ use Rattle.ledger.specs.Lists.{numbers, has, start, sweep, with_edit, edit_of, d
 use Rattle.ledger.specs.Refusals.{refusal, tick_end, block_end, stated_end, edit_end}
 use Rattle.ledger.specs.TickSamples.{tick_sum}
 use Rattle.ledger.specs.BlockSamples.{block_sum}
-use Rattle.ledger.proofs.Partition.{is}
-use Rattle.ledger.proofs.Sums.{event_sum, event_sum_append, event_sum_rewound, event_sum_edit, event_sum_start, event_sum_sweep, event_sum_tick, event_sum_block}
-use Rattle.ledger.proofs.Conservation.{held_sum, held_sum_enter, event_sum_everything}
+use Rattle.ledger.specs.Partition.{is}
+use Rattle.ledger.specs.Sums.{event_sum}
+use Rattle.ledger.proofs.Sums.{event_sum_append, event_sum_rewound, event_sum_edit, event_sum_start, event_sum_sweep, event_sum_tick, event_sum_block}
+use Rattle.ledger.specs.Conservation.{held_sum}
+use Rattle.ledger.proofs.Conservation.{held_sum_enter, event_sum_everything}
 use Rattle.standing.specs.Standings.{placed, standing_of}
 
 -- the four counts are as they were

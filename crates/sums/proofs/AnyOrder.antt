@@ -17,6 +17,7 @@ use Rattle.sums.specs.Multiples.{multiples, summed, exact_sum, Exactly}
 use Rattle.sums.specs.Contributions.{tick_contributions, contribution, block_contributions}
 use Rattle.sums.specs.Theorem.{Sums}
 use Rattle.sums.proofs.Theorem.{sums}
+use Rattle.sums.specs.AnyOrder.{plus}
 
 -- ---- the sample of a tick
 
@@ -55,13 +56,6 @@ added-behind (suc s) run (x ∷ l) (suc k) h = added-behind s run l k (omega ari
 added-behind zero [] (x ∷ l) k h = refl
 added-behind zero (y ∷ run) (x ∷ l) zero h = absurd (omega arith)
 added-behind zero (y ∷ run) (x ∷ l) (suc k) h = added-behind zero run l k (omega arith)
-
--- ---- the sample of a block at place k
-
--- x, and what is contributed to it
-abbrev plus : (x : Float) → Option Float → Float
-plus x none = x
-plus x (some y) = x +ˢ y
 
 module _ (pool : List Float) (b : Span) (k : ℕ) where
   channel_at : (e : Event) (channel : List Float) → k < length channel → get_or (channel_after pool b e channel) k zeroᶠ ≡ plus (get_or channel k zeroᶠ) (contribution pool b k e)

@@ -2,26 +2,15 @@
 use Rattle.std.specs.Prelude.{ℕ, ◌+◌, ◌*◌, ◌^◌, ◌<◌, ◌≡◌, Bool, Float, get_or}
 use Rattle.std.proofs.Common.{sym, ap, ◌∙◌, arith}
 use mathlib.Core.List.{List, [], ◌∷◌, ◌++◌}
-use Rattle.std.proofs.Math.Option.{Option}
 use Rattle.floats.specs.Arithmetic.{zeroᶠ}
-use Rattle.event.specs.declared.MixOrder.{MixOrder}
 use Rattle.event.specs.declared.MixOrder.TheVariants.{Forward}
 use Rattle.event.specs.declared.ReplayMode.{ReplayMode}
 use Rattle.ledger.specs.Calls.{Call, tick, block}
-use Rattle.ledger.specs.Claim.{Engine, calls, ledger_after, SameReply, SameReplies, is_lent, Lends, AllLend, Claim}
+use Rattle.ledger.specs.Claim.{Engine, calls, ledger_after, SameReply, SameReplies, Lends, AllLend, Claim}
 use Rattle.ledger.specs.Ledger.{Ledger, create}
-use Rattle.ledger.specs.Refusals.{tick_end, block_end}
-use Rattle.ledger.specs.Steps.{advance, span_of, step, run}
-use Rattle.sums.specs.Contributions.{All, TickQualifies, BlockQualifies}
+use Rattle.ledger.specs.Steps.{step, run}
 use Rattle.sums.proofs.Marked.{reached}
-
--- an engine in the state s, and the ledger after the same calls
-pub record SameSamples (E : Engine) (s : E.State) (l : Ledger) : Type 0 where
-  pub tick_samples : (o : MixOrder) (pool out : List Float) → All (TickQualifies pool l.clock) (advance l (tick_end l)).sounding
-      → (E.call s (tick o pool out)).1.out ≡ (E.call s (tick Forward pool out)).1.out
-  pub block_samples : (o : MixOrder) (n : ℕ) (pool out : List Float) (scratch : Option (List Float)) (c k : ℕ) → is_lent scratch ≡ E.lends → c < l.channels → k < n
-      → All (BlockQualifies pool (span_of l n) k) (advance l (block_end l n)).sounding
-      → get_or (E.call s (block o n pool out scratch)).1.out (64 * c + k) zeroᶠ ≡ get_or (E.call s (block Forward n pool out scratch)).1.out (64 * c + k) zeroᶠ
+use Rattle.sums.specs.Engines.{SameSamples}
 
 one_more : (b : Bool) (cs : List Call) (c : Call) → AllLend b cs → Lends b c → AllLend b (cs ++ (c ∷ []))
 one_more b [] c h k = (k, tt)

@@ -17,7 +17,8 @@ use Rattle.event.specs.declared.Event.{Event}
 use Rattle.event.specs.Sources.{sample_of, next_samples}
 use Rattle.ledger.specs.TickSamples.{tick_sample, faded_in, faded_out}
 use Rattle.ledger.specs.BlockSamples.{Span, first_place, end_place, fade_in_place, fade_out_place, faded_run}
-use Rattle.ledger.proofs.FadesByPlace.{faded_in_at, faded_out_at, fades_by_place}
+use Rattle.ledger.specs.FadesByPlace.{faded_in_at, faded_out_at}
+use Rattle.ledger.proofs.FadesByPlace.{fades_by_place}
 use Rattle.sums.specs.Multiples.{multiple, multiples}
 use Rattle.sums.proofs.AnyOrder.{sums_of_tick, sums_of_block}
 use Rattle.sums.proofs.Exact.{part, multiple_of, round-exactly}

@@ -4,3 +4,6 @@ pub mod Theorem
 pub mod Cases
 pub mod Contributions
 pub mod CasesOfOrder
+pub mod AnyOrder
+pub mod Engines
+pub mod Marked

@@ -1,7 +1,7 @@
 -- A tape's records on the engine (crate player), as lines: with room enough they write the listing over the plain ledger. Assumes nothing.
 use Prim.Native.Nat.{ℕ, zero, suc, ◌+◌, ◌-◌, ◌*◌, ◌≤◌}
 use Rattle.std.proofs.Math.Bool.{Bool, cond}
-use Rattle.std.specs.Prelude.{true, false, ◌≡◌, ltb, eqb, Float, take, drop, replicate}
+use Rattle.std.specs.Prelude.{true, false, ◌≡◌, eqb, Float, take, drop, replicate}
 use Rattle.std.proofs.Math.Path.{refl, sym, ap₂}
 use Rattle.std.proofs.Common.{ap, ◌∙◌, arith, le-ltb, length-append, length-drop, length-take-le, take_at, drop_at}
 use mathlib.Core.List.{List, [], ◌++◌, append-nil}
@@ -14,7 +14,6 @@ use Rattle.floats.specs.Arithmetic.{zeroᶠ}
 use Rattle.ledger.specs.Calls.{tick, block}
 use Rattle.ledger.specs.Claim as Claim
 use Rattle.ledger.specs.Ledger.{Ledger, fresh}
-use Rattle.ledger.specs.Steps.{step}
 use Rattle.listing.specs.Text.{counts_line, samples_line}
 use Rattle.sequencer.specs.declared.Sequencer.{Sequencer}
 use Rattle.sequencer.specs.declared.Outcome.{Outcome}
@@ -45,6 +44,7 @@ use Rattle.tape_extent.specs.Playing.{Played, heard, play}
 use Rattle.render.specs.Heard.{step_channels}
 use Rattle.render.specs.Follows.{Follows, Followed, Readable, outputs, starts, follows, readable}
 use Rattle.tape_listing.specs.Listing.{record_line, lines_per_channel, sound_lines, lines_of, Rest, after_record, after_read, listed_from, listed_with}
+use Rattle.tape_listing.specs.Listed.{Writes}
 
 -- ---- a record's line: the engine's counts are the ledger's
 
@@ -112,14 +112,6 @@ module _ (pool : List Float) (s : Sequencer) (l : Ledger) (w : Follows s l) (out
       ap₂ (λ (x y : List ℕ). x ++ y)
       (ap (λ (n : ℕ). Output.record_line k n counts) f.refusal ∙ counts_line_lem k p.refusal a.sequencer p.ledger f.after)
       (same-sound call f)
-
--- ---- one record, with room for any
-
--- the rest on the engine, in so much room, writes the rest of the listing
-abbrev Writes : Player.Rest → Rest → Type 0
-Writes rest rest' =
-    (s : Sequencer) (l : Ledger) (c : Cursor) (samples : List Float) (room : ℕ) → length samples ≡ 512 → Follows s l → length (rest' l c) + 4716 ≤ room
-    → (rest s c samples room).written ≡ rest' l c
 
 module _ (rest : Player.Rest) (rest' : Rest) (writes : Writes rest rest') where
   after_same : (s : Sequencer) (c : Cursor) (k : ℕ) (call : Call) (a : Applied) (o : List Float) (p : Played) (next : Cursor) (room : ℕ)

@@ -1,5 +1,5 @@
 -- A tape that arrives in pieces: whatever they are, the calls by which `trail` lists it write its listing. Assumes nothing.
-use Prim.Native.Nat.{ℕ, zero, suc, ◌+◌, ◌-◌, ◌≤◌, ◌<◌}
+use Prim.Native.Nat.{ℕ, zero, suc, ◌+◌, ◌-◌, ◌≤◌}
 use Rattle.std.specs.Prelude.{Bool, true, false, cond, ◌≡◌, List, [], ◌∷◌, ◌++◌, eqb, Float, length, drop}
 use Rattle.std.proofs.Math.Path.{refl}
 use Rattle.std.proofs.Common.{sym, ap, ◌∙◌, subst, append-nil, append_assoc, arith, ne_eqb, length-append, length-drop}
@@ -15,29 +15,14 @@ use Rattle.resuming.specs.Parts.{AtHand}
 use Rattle.resuming.specs.Resumes.{waits}
 use Rattle.resuming.proofs.Resuming.{resumes}
 use Rattle.resuming.proofs.Moved.{moved}
-use Rattle.resuming.proofs.Reasons.{Possible, possible}
+use Rattle.resuming.specs.Reasons.{Possible}
+use Rattle.resuming.proofs.Reasons.{possible}
 use Rattle.resuming.proofs.Onward.{onward}
 use Rattle.resuming.proofs.FullMoves.{full-moves}
 use Rattle.tape_listing.specs.Listing.{listed_with}
 use Rattle.tape_listing.proofs.Listed.{runs_listed}
 use Rattle.tape_listing.specs.Calls.{tape_of, next_read, later_reads, Lister, begins, call, resumed, read_on, written_after, written}
-
--- the tape from the bytes at hand on
-abbrev tape_from : (whole : Bool) → (hand : List ℕ) → (reads : List (List ℕ)) → List ℕ
-tape_from true hand reads = hand
-tape_from false hand reads = hand ++ tape_of reads
-
-abbrev rest_of : Lister → List ℕ
-rest_of t = tape_from t.whole t.hand t.reads
-
--- how many reads are left, the one that finds the end among them
-abbrev reads_left : (whole : Bool) → (reads : List (List ℕ)) → ℕ
-reads_left true reads = 0
-reads_left false reads = suc (length reads)
-
--- as many calls as that and the bytes left may need
-abbrev CallsFor : Lister → ℕ → Type 0
-CallsFor t n = length (rest_of t) - t.cursor.at + reads_left t.whole t.reads < n
+use Rattle.tape_listing.specs.Pieces.{tape_from, rest_of, reads_left, CallsFor, left, Writes}
 
 at_hand : (whole : Bool) (hand : List ℕ) (reads : List (List ℕ)) → AtHand hand whole (tape_from whole hand reads)
 at_hand true hand reads = refl
@@ -63,17 +48,8 @@ reads_on ([] ∷ later) = omega arith
 reads_on ((b ∷ bs) ∷ later) = let e = ap (λ (z : Bool). reads_left z later) (ne_eqb (length (b ∷ bs)) 0 (λ e. omega arith)) in omega arith
 
 module _ (pool : List Float) (room : ℕ) (enough : 4716 ≤ room) where
-  -- what is left of the tape in one run, with all the room
-  abbrev left : Lister → (all : ℕ) → Ran
-  left t all = ran Lines pool (rest_of t) true t.sequencer t.cursor all
-
-  -- n calls write what that run does, where it leaves room for one call more
-  abbrev Writes : (n : ℕ) → Lister → Type 0
-  Writes n t =
-      (all : ℕ) → t.cursor.at ≤ length t.hand → length (left t all).written + room ≤ all → CallsFor t n → written pool room n t ≡ (left t all).written
-
   -- a call, and the run that goes on where it stopped
-  module _ (n : ℕ) (writes : (t : Lister) → Writes n t) (all : ℕ) where
+  module _ (n : ℕ) (writes : (t : Lister) → Writes pool room enough n t) (all : ℕ) where
     abbrev on_from : Lister → Ran
     on_from t = let r = call pool room t in ran Lines pool (rest_of t) true r.sequencer r.cursor (all - length r.written)
 
@@ -106,14 +82,14 @@ module _ (pool : List Float) (room : ℕ) (enough : 4716 ≤ room) where
         let i : at ≤ length hand = o.1 h in
         let tape : rest_of (read_on t r) ≡ drop at (rest_of t) = tape_on (drop at hand) reads ∙ sym (drop-append-le at hand (tape_of reads) i) in
         let zero-at : 0 ≡ at - at = omega arith in
-        let same : (left (read_on t r) rest).written ≡ (on_from t).written =
+        let same : (left pool room enough (read_on t r) rest).written ≡ (on_from t).written =
         (λ j. (ran Lines pool (tape j) true r.sequencer (record { at = zero-at j; first = r.cursor.first }) rest).written)
         ∙ ap (λ (x : Ran). x.written) (moved Lines pool at (rest_of t) true r.sequencer r.cursor rest (omega arith)) in
         let size : length (rest_of (read_on t r)) ≡ length (rest_of t) - at = ap length tape ∙ length-drop at (rest_of t) in
         let fewer = reads_on reads in
         writes (read_on t r) rest (omega arith) (omega (arith, length-append r.written (on_from t).written, ap length same)) (omega arith) ∙ same
 
-  law : (n : ℕ) (t : Lister) → Writes n t
+  law : (n : ℕ) (t : Lister) → Writes pool room enough n t
   unfolding written
   law zero t all h m k = absurd (omega arith)
   law (suc n) t all h m k = go (law n) r.pause refl (ap (λ (x : Ran). x.written) q)
@@ -124,15 +100,15 @@ module _ (pool : List Float) (room : ℕ) (enough : 4716 ≤ room) where
       on : Ran
       on = ran Lines pool (rest_of t) true r.sequencer r.cursor (all - length r.written)
 
-      q : left t all ≡ cond (waits r.pause) (behind r.written on) r
+      q : left pool room enough t all ≡ cond (waits r.pause) (behind r.written on) r
       q = resumes Lines pool t.hand t.whole (rest_of t) (at_hand t.whole t.hand t.reads) t.sequencer t.cursor room all (omega arith)
 
       -- what is written before
       ahead : List ℕ → List ℕ
       ahead x = r.written ++ x
 
-      go : ((t : Lister) → Writes n t) → (p : Pause) → r.pause ≡ p → (left t all).written ≡ (cond (waits p) (behind r.written on) r).written
-          → r.written ++ written_after (written pool room n) t r p ≡ (left t all).written
+      go : ((t : Lister) → Writes pool room enough n t) → (p : Pause) → r.pause ≡ p → (left pool room enough t all).written ≡ (cond (waits p) (behind r.written on) r).written
+          → r.written ++ written_after (written pool room n) t r p ≡ (left pool room enough t all).written
       go writes Full e q =
           let m' = subst (λ (x : List ℕ). length x + room ≤ all) q m in
           ap ahead (on_full n writes all t e h m' k) ∙ sym q

@@ -1,2 +1,4 @@
 pub mod Listing
 pub mod Calls
+pub mod Listed
+pub mod Pieces
