@@ -64,6 +64,7 @@ pub fn place_if(laid: bool, s: Sequencer, clip: u64) -> u64
 }
 
 // Whether all four counts are as they were.
+#[tactic(auto, unfolding(crate::specs::Tracks::same_counts))]
 pub fn is_same(a: Counts, b: Counts) -> bool
     ensures { result ≡ same_counts a b }
 {
