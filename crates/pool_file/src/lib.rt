@@ -22,6 +22,9 @@ pub fn room() -> [f32; 262144]
     [0.0; 262144]
 }
 
+// The same room, as a number of samples.
+pub const ROOM: usize = 262144;
+
 // Where the samples stand in a file, and how many bytes they take; `known` where they are samples of one channel of 32-bit floats.
 #[derive(Clone, Copy)]
 struct Place {

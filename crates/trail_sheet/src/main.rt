@@ -385,17 +385,25 @@ fn draw_named<E: Eprint, F: FileExt, W: Write>(
 
 fn main(rt: HostRuntime) -> io::Result<()> {
     let mut name = [0u8; 4096];
-    let mut pool = pool_file::room();
+    let mut pool = vec![in rt.alloc(); 0.0f32; pool_file::ROOM]?;
     let opened = tape_pages::open(
         &rt,
         b"trail_sheet",
         b"Draws the tape TAPE as an SVG page on standard output.\n",
         &mut name,
-        &mut pool,
+        &mut pool[..],
     );
     if let Some(file) = &opened.file {
         let mut out = BufWriter::new(rt.alloc(), rt.stdout())?;
-        draw_named(&rt, &mut out, file, &name, opened.name, &pool, opened.count)?;
+        draw_named(
+            &rt,
+            &mut out,
+            file,
+            &name,
+            opened.name,
+            &pool[..],
+            opened.count,
+        )?;
         return out.flush();
     }
     Ok(())

@@ -335,17 +335,17 @@ fn tell_file<E: Eprint, F: FileExt, W: Write>(
 
 fn main(rt: HostRuntime) -> io::Result<()> {
     let mut name = [0u8; 4096];
-    let mut pool = pool_file::room();
+    let mut pool = vec![in rt.alloc(); 0.0f32; pool_file::ROOM]?;
     let opened = tape_pages::open(
         &rt,
         b"trail_story",
         b"Tells the tape TAPE in lines on standard output.\n",
         &mut name,
-        &mut pool,
+        &mut pool[..],
     );
     if let Some(file) = &opened.file {
         let mut out = BufWriter::new(rt.alloc(), rt.stdout())?;
-        tell_file(&rt, &mut out, file, &pool, opened.count)?;
+        tell_file(&rt, &mut out, file, &pool[..], opened.count)?;
         return out.flush();
     }
     Ok(())

@@ -314,13 +314,16 @@ fn play_with_pool<R: Files<File = File> + Print + Eprint + Alloc, I: io::Read>(
     out: &[u8],
     path: &[u8],
 ) {
-    let mut pool = pool_file::room();
-    let loaded = pool_file::load(rt, path, &mut pool);
+    let Ok(mut pool) = vec![in rt.alloc(); 0.0f32; pool_file::ROOM] else {
+        streams::say(rt, b"trail_wav: no memory for the pool\n");
+        return;
+    };
+    let loaded = pool_file::load(rt, path, &mut pool[..]);
     if !loaded.good {
         return;
     }
     let n = loaded.count;
-    if n <= 262144 {
+    if n <= pool.len() {
         play(rt, terminal, from, out, &pool[..n]);
     }
 }
