@@ -1,5 +1,5 @@
 -- What a record's call does to the engine, and which samples it leaves in the lent output. Assumes nothing.
-use Rattle.std.specs.Prelude.{ℕ, zero, suc, ◌+◌, ◌*◌, min, cond, List, [], ◌∷◌, ◌++◌, eqb, Float, length, take, drop}
+use Rattle.std.specs.Prelude.{ℕ, ◌*◌, min, cond, List, ◌++◌, eqb, Float, length, take, drop}
 use Rattle.event.specs.declared.MixOrder.TheVariants.{Forward}
 use Rattle.sequencer.specs.declared.Sequencer.{Sequencer}
 use Rattle.sequencer.specs.declared.Outcome.{Outcome}

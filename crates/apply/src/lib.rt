@@ -8,10 +8,10 @@ ghost use Rattle.sequencer.specs.Creation.{created};
 ghost use Rattle.apply.specs.Applying.{refusal_of, silent_of, sounding_of, ticking, ticking_out, processing, processing_out, push_kind_of, pushed, applied_to, applied_out};
 
 use event::{MixOrder, ReplayMode};
-use runs::least;
 use sequencer::{Answer, Outcome, Sequencer};
 use tape::reader::{Call, PushRecord};
 
+// (The refusal is document 01's "refusal or 0", which the record's line prints.)
 // The engine after a call, the refusal or 0, and what an accepted tick or block has left in the output: `each` samples of every channel, `stride` places apart.
 #[derive(Clone, Copy)]
 pub struct Applied {
@@ -27,12 +27,12 @@ fn refusal(answer: Answer) -> u64
 {
     match answer {
         Answer::Refused(n) => n,
-        Answer::Number(_) => 0,
-        Answer::Applied => 0,
-        Answer::Past => 0,
-        Answer::Stored => 0,
-        Answer::Done => 0,
-        Answer::Rendered(_) => 0,
+        Answer::Number(_)
+        | Answer::Applied
+        | Answer::Past
+        | Answer::Stored
+        | Answer::Done
+        | Answer::Rendered(_) => 0,
     }
 }
 
@@ -80,8 +80,8 @@ fn tick(s: Sequencer, pool: &[f32], out: &mut [f32]) -> Applied
     ensures value { result ≡ ticking pool.now s out.old }
     ensures out_after { out.new ≡ ticking_out pool.now s out.old }
 {
-    let channels = least(s.outputs, 8);
-    let n = least(channels, out.len());
+    let channels = s.outputs.min(8);
+    let n = channels.min(out.len());
     let r = s.tick(MixOrder::Forward, pool, &mut out[..n]);
     sounding(r, channels, 1, 1)
 }
@@ -90,8 +90,8 @@ fn process(s: Sequencer, size: usize, pool: &[f32], out: &mut [f32]) -> Applied
     ensures value { result ≡ processing pool.now size s out.old }
     ensures out_after { out.new ≡ processing_out pool.now size s out.old }
 {
-    let channels = least(s.outputs, 8);
-    let n = least(64 * channels, out.len());
+    let channels = s.outputs.min(8);
+    let n = (64 * channels).min(out.len());
     let r = s.process(MixOrder::Forward, size, pool, &mut out[..n]);
     sounding(r, channels, size, 64)
 }
@@ -111,7 +111,7 @@ pub fn silence() -> [f32; 512]
     [0.0; 512]
 }
 
-// The push of a record of kind 1, 2 or 3.
+// The push of a record of kind 1, 2 or 3: document 01's bytes.
 pub fn push(s: Sequencer, kind: u8, p: PushRecord) -> Outcome
     ensures { result ≡ pushed (push_kind_of kind) s p }
 {

@@ -33,6 +33,7 @@ pub fn get(b: &[u8]) -> Arguments
     }
 }
 
+// A row beside that of the numbers, as `little_endian::put_fields` takes them.
 fn widths() -> [usize; 18]
     ensures { result ≡ record_widths }
 {

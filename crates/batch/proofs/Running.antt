@@ -25,7 +25,7 @@ use Rattle.sequencer.specs.Pushes.{admitted, pushes_to, pushes}
 use Rattle.memory.specs.Memory.{Cells, engine_of}
 use Rattle.claim.specs.EngineCalls.{engine_call}
 use Rattle.apply.specs.Applying as Applying
-use Rattle.apply.specs.Applying.{pushed, push_kind_of}
+use Rattle.apply.specs.Applying.{pushed}
 use Rattle.apply.specs.RecordCalls.{refusal_of}
 use Rattle.batch.specs.declared.Batch.{Batch}
 use Rattle.batch.specs.Records.{beyond, stop_of, kind_at, call_of}
@@ -79,11 +79,6 @@ module _ (s : Sequencer) (bs : List ℕ) where
   outcome-accepted : eqb refusal_on 0 ≡ true → Applying.refusal_of outcome.answer ≡ 0
   unfolding pushes pushes_to admitted
   outcome-accepted h = rw h
-
--- a push of the kind that a number names
-pub of_kind : (s : Sequencer) (p : PushRecord) {z k : PushKind} → z ≡ k → {t : Sequencer} {a : Answer}
-    → (t ≡ (pushed k s p).sequencer) × (a ≡ (pushed k s p).answer) → (t ≡ (pushed z s p).sequencer) × (a ≡ (pushed z s p).answer)
-of_kind s p e {t} {a} h = subst (λ (y : PushKind). (t ≡ (pushed y s p).sequencer) × (a ≡ (pushed y s p).answer)) (sym e) h
 
 -- ---- the record that begins the bytes, as a run of one
 
@@ -166,8 +161,8 @@ module _ (bs : List ℕ) (s : Sequencer) where
       )
 
 -- what the code has of such a record: its kind and its arguments, read by parts
-pub pushed-one : (bs : List ℕ) (s t : Sequencer) (a : Answer) (kind : ℕ) (p : PushRecord) (x : ℕ) → eqb (stop_of bs) 0 ≡ true
-    → push_kind_of kind ≡ kind_at bs → p ≡ push_of bs → t ≡ (pushed (push_kind_of kind) s p).sequencer → a ≡ (pushed (push_kind_of kind) s p).answer
+pub pushed-one : (bs : List ℕ) (s t : Sequencer) (a : Answer) (kind : PushKind) (p : PushRecord) (x : ℕ) → eqb (stop_of bs) 0 ≡ true
+    → kind ≡ kind_at bs → p ≡ push_of bs → t ≡ (pushed kind s p).sequencer → a ≡ (pushed kind s p).answer
     → x ≡ Applying.refusal_of a → (t ≡ (push_run engine_call 1 bs s).state) × (x ≡ (push_run engine_call 1 bs s).ended)
 pushed-one bs s t a kind p x h k q e f g = (
   e ∙ ap₂ (λ (z : PushKind) (y : PushRecord). (pushed z s y).sequencer) k q ∙ (pushes-one bs s h).0,
@@ -306,9 +301,12 @@ module _ {count : ℕ} {bs : List ℕ} {s₀ : Sequencer} {xs₀ : List ℕ} whe
         all = w.gives ∙ ap (behind w.issued) h
 
     -- every record is done
-    pub run_done : count ≤ k → Running count bs s₀ xs₀ k at s xs → Result count bs s₀ xs₀ k s xs 0
+    pub run_done : count ≤ k → Running count bs s₀ xs₀ k at s xs → Result count bs s₀ xs₀ count s xs 0
     unfolding push_run
-    run_done l w = let q : w.left ≡ 0 = omega (arith, w.total, l) in result s 0 w (ap (λ (m : ℕ). push_run engine_call m (drop at bs) s) q)
+    run_done l w =
+        let q : w.left ≡ 0 = omega (arith, w.total, l) in
+        let e : k ≡ count = omega (arith, w.total, l) in
+        subst (λ (j : ℕ). Result count bs s₀ xs₀ j s xs 0) e (result s 0 w (ap (λ (m : ℕ). push_run engine_call m (drop at bs) s) q))
 
     -- a record, or its refusal, ends it
     pub run-ended : (t : Sequencer) (x : ℕ) → k < count → Ends (drop at bs) s t x → Running count bs s₀ xs₀ k at s xs → Result count bs s₀ xs₀ k t xs x

@@ -4,18 +4,18 @@
 ghost use Rattle.std.specs.Prelude.{◌≡◌, ◌+◌, ◌≤◌, ◌<◌, length};
 ghost use Rattle.memory.specs.Memory.{before, after, engine_of};
 ghost use Rattle.claim.specs.EngineCalls.{engine_call};
-ghost use Rattle.apply.specs.Applying.{push_kind_of, pushed};
+ghost use Rattle.apply.specs.Applying.{push_kind_of};
+ghost use Rattle.live.specs.CallContracts.{timed};
 ghost use Rattle.tape.specs.Tape.{kind_of, size_of};
 ghost use Rattle.batch.specs.Records.{stop_of, beyond};
 ghost use Rattle.batch.specs.Run.{push_run};
 ghost use Rattle.batch.specs.Contract.{batch_of, push_records, numbers_after};
 
+use live::Timing;
 use memory::{Levels, Marks, NEXT, Numbers, Times};
-use sequencer::Answer;
-use tape::reader::PushRecord;
 use tape::{fields, reader};
 
-// How many pushes were carried out, and what ended the run: 0 if nothing did.
+// How many pushes were carried out, and what ended the run: 0 if nothing did. (A number, since what ended it may be a push's refusal, which is one.)
 #[derive(Clone, Copy)]
 pub struct Batch {
     pub pushed: usize,
@@ -33,14 +33,11 @@ fn beyond(count: usize, len: usize) -> bool
 fn stop_of(bs: &[u8]) -> u64
     ensures { result ≡ stop_of bs.now }
 {
-    if bs.len() == 0 {
+    if bs.is_empty() {
         return 15;
     }
     let kind = fields::byte(bs, 0);
-    if !reader::is_push(kind) {
-        return 14;
-    }
-    if reader::is_unknown_push(bs) {
+    if !reader::is_push(kind) || reader::is_unknown_push(bs) {
         return 14;
     }
     if bs.len() < reader::size_of(kind) {
@@ -56,22 +53,14 @@ fn size_at(bs: &[u8]) -> usize
     reader::size_of(fields::byte(bs, 0))
 }
 
-// The push of a record of kind 1, 2 or 3.
-fn push_of_kind(
-    times: &mut Times,
-    levels: &mut Levels,
-    marks: &mut Marks,
-    numbers: &mut Numbers,
-    kind: u8,
-    p: PushRecord,
-) -> Answer
-    ensures engine { engine_of (after times.new levels.new marks.new numbers.new) ≡ (pushed (push_kind_of kind) (engine_of (before times.old levels.old marks.old numbers.old)) p).sequencer }
-    ensures answer { result ≡ (pushed (push_kind_of kind) (engine_of (before times.old levels.old marks.old numbers.old)) p).answer }
+// How a record of kind 1, 2 or 3 states its times.
+fn timing_of(kind: u8) -> Timing
+    ensures { timed result ≡ push_kind_of kind }
 {
     match kind {
-        1 => live_apply::push(times, levels, marks, numbers, p),
-        2 => live_apply::push_relative(times, levels, marks, numbers, p),
-        _ => live_apply::push_duration(times, levels, marks, numbers, p),
+        1 => Timing::Absolute,
+        2 => Timing::Relative,
+        _ => Timing::Duration,
     }
 }
 
@@ -92,10 +81,9 @@ fn push_record(
     if stop != 0 {
         return stop;
     }
-    let byte = fields::byte(bs, 0);
-    let kind = reader::plain_kind(byte);
+    let kind = reader::plain_kind(fields::byte(bs, 0));
     let p = reader::push_of(bs);
-    let answer = push_of_kind(times, levels, marks, numbers, kind, p);
+    let answer = live_apply::push(times, levels, marks, numbers, timing_of(kind), p);
     live_apply::refusal(answer)
 }
 
@@ -122,17 +110,18 @@ pub fn push_records(
             ended: 16,
         };
     }
-    let mut pushed = 0;
     let mut at = 0;
-    while pushed < count {
+    for pushed in 0..count {
         let number = numbers[NEXT];
         let ended = push_record(times, levels, marks, numbers, &records[at..]);
         if ended != 0 {
             return Batch { pushed, ended };
         }
         given[pushed] = number;
-        pushed = pushed + 1;
-        at = at + size_at(&records[at..]);
+        at += size_at(&records[at..]);
     }
-    Batch { pushed, ended: 0 }
+    Batch {
+        pushed: count,
+        ended: 0,
+    }
 }

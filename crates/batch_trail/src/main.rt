@@ -6,7 +6,6 @@ ghost use Rattle.std.specs.Prelude.{◌≤◌, length};
 
 use event::ReplayMode;
 use memory::{Levels, Marks, Numbers, Times};
-use runs::least;
 use sequencer::Answer;
 use std::io;
 use std::io::{BufWriter, Write};
@@ -14,10 +13,8 @@ use tape::fields;
 use tape::reader::{Cursor, Read};
 
 fn mark(numbers: &mut [u64]) {
-    let mut i: usize = 0;
-    while i < numbers.len() {
-        numbers[i] = 1000000 + (i % 65536) as u64;
-        i = i + 1;
+    for (i, n) in numbers.iter_mut().enumerate() {
+        *n = 1000000 + (i % 65536) as u64;
     }
 }
 
@@ -57,7 +54,7 @@ fn push_records<W: Write>(
     given: &mut [u64],
 ) -> io::Result<()> {
     mark(given);
-    let n = least(len, given.len());
+    let n = len.min(given.len());
     let b = batch::push_records(
         times,
         levels,
@@ -67,13 +64,12 @@ fn push_records<W: Write>(
         count,
         &mut given[0..n],
     );
-    let pushed = b.pushed;
-    let ended = b.ended;
-    write!(out, "{pushed} {ended}")?;
+    write!(out, "{} {}", b.pushed, b.ended)?;
     list_numbers(out, given)?;
     list_engine(out, times, levels, marks, numbers)
 }
 
+// The four arrays are what crate live takes; 65,537 is a place past every tape, at which the loop ends as at any other.
 // The run of push records at a place up to 65,536: the place behind it, or 65,537 if its head is cut.
 fn play_run<W: Write>(
     out: &mut W,
@@ -94,7 +90,7 @@ fn play_run<W: Write>(
     let count = fields::byte(bytes, at + 1) as usize;
     let len = fields::byte(bytes, at + 2) as usize;
     let size = fields::word32(bytes, at + 3) as usize % 65536;
-    let n = least(size, bytes.len() - from);
+    let n = size.min(bytes.len() - from);
     let records = &bytes[from..from + n];
     push_records(
         out, times, levels, marks, numbers, records, count, len, given,
@@ -113,10 +109,9 @@ fn play_record(
     pool: &[f32],
     samples: &mut [f32],
 ) -> usize {
-    let byte = fields::byte(bytes, at);
     let c = Cursor {
         at,
-        first: byte == 0,
+        first: fields::byte(bytes, at) == 0,
     };
     let r = c.read(bytes);
     let Read::Record { kind, call, next } = r else {
@@ -126,43 +121,24 @@ fn play_record(
     next.at
 }
 
-fn no_times() -> Times {
-    [0.0; 3588]
-}
-
-fn no_levels() -> Levels {
-    [0.0; 3072]
-}
-
-fn no_marks() -> Marks {
-    [0; 3072]
-}
-
-fn no_numbers() -> Numbers {
-    [0; 1288]
-}
-
 fn run<W: Write>(out: &mut W, bytes: &[u8], pool: &[f32]) -> io::Result<()> {
-    let mut times = no_times();
-    let mut levels = no_levels();
-    let mut marks = no_marks();
-    let mut numbers = no_numbers();
-    let mode = ReplayMode::All;
+    let mut times: Times = [0.0; 3588];
+    let mut levels: Levels = [0.0; 3072];
+    let mut marks: Marks = [0; 3072];
+    let mut numbers: Numbers = [0; 1288];
     live::create(
         &mut times,
         &mut levels,
         &mut marks,
         &mut numbers,
         1,
-        mode,
+        ReplayMode::All,
         1,
     );
     let mut samples = apply::silence();
     let mut given = [0u64; 64];
     let mut at: usize = 0;
-    let mut turns = bytes.len();
-    while turns > 0 {
-        turns = turns - 1;
+    for _ in 0..bytes.len() {
         if 65536 < at {
             return Ok(());
         }

@@ -1,11 +1,13 @@
 -- From a live call's contract to its entry's: the numbers that cross are those of the values.
-use mathlib.Core.Bool.{Bool, true, false}
+use mathlib.Core.Bool.{Bool, true, false, true≢false}
 use mathlib.Core.List.{List}
 use mathlib.Core.Path.{◌≡◌, refl, sym, ap, subst, ◌∙◌}
 use Prim.Native.Nat.{ℕ}
 use lib.Dec.{T}
 use lib.Ieee.{Float}
 use lib.ListN.{length}
+use Rattle.std.specs.declared.option.Option.{Option}
+use Rattle.std.specs.declared.option.Option.TheVariants.{Some, None}
 use Rattle.event.specs.declared.Fade.{Fade}
 use Rattle.event.specs.declared.MixOrder.{MixOrder}
 use Rattle.event.specs.declared.Source.{Source}
@@ -17,7 +19,33 @@ use Rattle.sequencer.specs.Rendering.{ticks, tick_outs, blocks, block_outs}
 use Rattle.sequencer.specs.Rises.{pushes_told}
 use Rattle.memory.specs.Memory.{Cells, engine_of}
 use Rattle.live.specs.CallContracts.{Refuses}
-use Rattle.chakaqel.specs.Entries.{or_else, code_of, refusal, told_by, places_by}
+use Rattle.chakaqel.specs.Entries.{known, or_else, code_of, refusal, told_by, places_by}
+
+-- ---- numbers to values
+
+-- the value where there is one, and whether there is
+value_or : {A : Type 0} → A → Option A → A
+value_or d (Some x) = x
+value_or d None = d
+
+is-some : {A : Type 0} → Option A → Bool
+is-some (Some x) = true
+is-some None = false
+
+module _ {A : Type 0} (x : A) (o : Option A) where
+  -- no value: the number is unknown
+  pub unknown_is : (u : Bool) → o ≡ known u x → o ≡ None → u ≡ true
+  unfolding is-some
+  unknown_is true q h = refl
+  unknown_is false q h = absurd (true≢false (ap is-some (sym q ∙ h)))
+
+  -- a value: the number is known, and the value is its
+  pub known-is : (u : Bool) → o ≡ known u x → (y : A) → o ≡ Some y → (u ≡ false) × (y ≡ x)
+  unfolding is-some value_or
+  known-is true q y h = absurd (true≢false (ap is-some (sym h ∙ q)))
+  known-is false q y h = (refl, ap (value_or x) (sym h ∙ q))
+
+-- ---- answers to numbers
 
 -- a number of a refusal is that of a refused call
 pub refuses : (a : Answer) → T (refusal (code_of a)) → Refuses a

@@ -5,10 +5,10 @@ use Rattle.event.specs.declared.Fade.TheVariants.{Power, Smooth}
 use Rattle.event.specs.declared.MixOrder.{MixOrder}
 use Rattle.event.specs.declared.MixOrder.TheVariants.{Forward, Backward}
 use Rattle.event.specs.declared.ReplayMode.{ReplayMode}
-use Rattle.event.specs.declared.ReplayMode.TheVariants.{All, None}
+use Rattle.event.specs.declared.ReplayMode.TheVariants as Modes
+use Rattle.std.specs.declared.option.Option.{Option}
+use Rattle.std.specs.declared.option.Option.TheVariants.{Some, None}
 use Rattle.ledger.specs.Calls.{PushKind}
-use Rattle.lists.specs.declared.Found.{Found}
-use Rattle.lists.specs.declared.Found.TheVariants.{At, Nothing}
 use Rattle.sequencer.specs.declared.Answer.{Answer}
 use Rattle.sequencer.specs.declared.Answer.TheVariants.{Number, Applied, Past, Stored, Done, Rendered, Refused}
 use Rattle.sequencer.specs.declared.Sequencer.{Sequencer}
@@ -26,7 +26,7 @@ curve_of k = cond (eqb k 0) Power Smooth
 
 -- 0 All, 1 None
 abbrev pub mode_of : ℕ → ReplayMode
-mode_of k = cond (eqb k 0) All None
+mode_of k = cond (eqb k 0) Modes.All Modes.None
 
 -- 0 none, 1 document 02's mark
 abbrev pub order_of : ℕ → MixOrder
@@ -41,6 +41,10 @@ unknown_mark k = ltb 1 k
 
 abbrev pub unknown_voice : (curve source : ℕ) → Bool
 unknown_voice curve source = ltb 1 curve || ltb 2 source
+
+-- the value of a number, or none where it is unknown
+abbrev pub known : {A : Type 0} → (unknown : Bool) → A → Option A
+known unknown x = cond unknown None (Some x)
 
 -- what a call gives, or, where a number is unknown, what there was (and 14)
 abbrev pub or_else : {A : Type 0} → (unknown : Bool) → (was given : A) → A
@@ -87,9 +91,9 @@ abbrev pub counts_by : Counts → List ℕ → List ℕ
 counts_by c l = set (set (set (set l 0 c.waiting) 1 c.sounding) 2 c.finished) 3 c.let_go
 
 -- a place, or 256
-abbrev pub place_code : Found → ℕ
-place_code (At i) = i
-place_code Nothing = 256
+abbrev pub place_code : Option ℕ → ℕ
+place_code (Some i) = i
+place_code None = 256
 
 -- ---- the entries
 

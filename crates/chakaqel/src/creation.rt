@@ -23,17 +23,9 @@ pub extern "C" fn chakaqel_create(
     ensures answer { result ≡ (create_entry (engine_of (before times.old levels.old marks.old numbers.old)) channels mode first).code }
     ensures unknown { T (unknown_mode mode) → after times.new levels.new marks.new numbers.new ≡ before times.old levels.old marks.old numbers.old }
 {
-    if 1 < mode {
+    let Some(mode) = mode_of(mode) else {
         return 14;
-    }
-    let answer = live::create(
-        times,
-        levels,
-        marks,
-        numbers,
-        channels,
-        mode_of(mode),
-        first,
-    );
+    };
+    let answer = live::create(times, levels, marks, numbers, channels, mode, first);
     code_of(answer)
 }

@@ -26,15 +26,8 @@ pub extern "C" fn chakaqel_edit(
         ≡ code_of (Edits.edits absolute_end (engine_of (before times.old levels.now marks.now numbers.old)) (record { 0 = number }) end_time fade_out).answer }
     ensures refused { T (refusal result) → after times.new levels.now marks.now numbers.new ≡ before times.old levels.now marks.now numbers.old }
 {
-    let answer = live::edit(
-        times,
-        levels,
-        marks,
-        numbers,
-        EventId(number),
-        end_time,
-        fade_out,
-    );
+    let id = EventId(number);
+    let answer = live::edit(times, levels, marks, numbers, id, end_time, fade_out);
     code_of(answer)
 }
 
@@ -55,14 +48,7 @@ pub extern "C" fn chakaqel_edit_relative(
         ≡ code_of (Edits.edits relative_end (engine_of (before times.old levels.now marks.now numbers.old)) (record { 0 = number }) end_time fade_out).answer }
     ensures refused { T (refusal result) → after times.new levels.now marks.now numbers.new ≡ before times.old levels.now marks.now numbers.old }
 {
-    let answer = live::edit_relative(
-        times,
-        levels,
-        marks,
-        numbers,
-        EventId(number),
-        end_time,
-        fade_out,
-    );
+    let id = EventId(number);
+    let answer = live::edit_relative(times, levels, marks, numbers, id, end_time, fade_out);
     code_of(answer)
 }

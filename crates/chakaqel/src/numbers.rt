@@ -1,72 +1,65 @@
 // Numbers for enums, and enums for numbers.
 ghost use Rattle.std.specs.Prelude.{◌≡◌};
 ghost use Rattle.memory.specs.Memory.{source_in};
-ghost use Rattle.chakaqel.specs.Entries.{curve_of, mode_of, order_of, unknown_voice, code_of, told_by, places_by};
+ghost use Rattle.chakaqel.specs.Entries.{known, curve_of, mode_of, order_of, unknown_mode, unknown_mark, unknown_voice, code_of, told_by, places_by};
 
 use event::{Fade, MixOrder, ReplayMode, Source};
 use sequencer::Answer;
 
-// Whether a curve (0 power, 1 smooth) or a source (0 held, 1 ramp, 2 clip) has no such number.
-pub(crate) fn unknown_voice(curve: u32, source: u32) -> bool
-    ensures { result ≡ unknown_voice curve source }
+// A curve (0 power, 1 smooth) and a source (0 held, 1 ramp, 2 clip), where both numbers are known.
+pub(crate) fn voice_of(
+    curve: u32,
+    source: u32,
+    a: f32,
+    b: f32,
+    offset: u32,
+    length: u32,
+) -> Option<(Fade, Source)>
+    ensures { result ≡ known (unknown_voice curve source) (curve_of curve, source_in source a b offset length) }
 {
-    1 < curve || 2 < source
+    let fade_ease = match curve {
+        0 => Fade::Power,
+        1 => Fade::Smooth,
+        _ => return None,
+    };
+    let source = match source {
+        0 => Source::Held(a),
+        1 => Source::Ramp(a, b),
+        2 => Source::Clip(offset, length),
+        _ => return None,
+    };
+    Some((fade_ease, source))
 }
 
-pub(crate) fn curve_of(curve: u32) -> Fade
-    ensures { result ≡ curve_of curve }
+pub(crate) fn mode_of(mode: u32) -> Option<ReplayMode>
+    ensures { result ≡ known (unknown_mode mode) (mode_of mode) }
 {
-    if curve == 0 {
-        Fade::Power
-    } else {
-        Fade::Smooth
+    match mode {
+        0 => Some(ReplayMode::All),
+        1 => Some(ReplayMode::None),
+        _ => None,
     }
 }
 
-pub(crate) fn source_of(source: u32, a: f32, b: f32, offset: u32, length: u32) -> Source
-    ensures { result ≡ source_in source a b offset length }
+pub(crate) fn order_of(mark: u32) -> Option<MixOrder>
+    ensures { result ≡ known (unknown_mark mark) (order_of mark) }
 {
-    if source == 0 {
-        return Source::Held(a);
-    }
-    if source == 1 {
-        return Source::Ramp(a, b);
-    }
-    Source::Clip(offset, length)
-}
-
-pub(crate) fn mode_of(mode: u32) -> ReplayMode
-    ensures { result ≡ mode_of mode }
-{
-    if mode == 0 {
-        ReplayMode::All
-    } else {
-        ReplayMode::None
+    match mark {
+        0 => Some(MixOrder::Forward),
+        1 => Some(MixOrder::Backward),
+        _ => None,
     }
 }
 
-pub(crate) fn order_of(mark: u32) -> MixOrder
-    ensures { result ≡ order_of mark }
-{
-    if mark == 0 {
-        MixOrder::Forward
-    } else {
-        MixOrder::Backward
-    }
-}
-
-// An answer's number: the refusal; 256 past, 257 stored; 0 for every other.
+// An answer's number: the refusal; 256 past, 257 stored; 0 for every other. (The C interface's numbers; a From cannot stand here: neither type is ours.)
 pub(crate) fn code_of(answer: Answer) -> u64
     ensures { result ≡ code_of answer }
 {
     match answer {
-        Answer::Number(_) => 0,
-        Answer::Applied => 0,
         Answer::Past => 256,
         Answer::Stored => 257,
-        Answer::Done => 0,
-        Answer::Rendered(_) => 0,
         Answer::Refused(n) => n,
+        _ => 0,
     }
 }
 
@@ -75,19 +68,11 @@ pub(crate) fn tell_push(answer: Answer, rise: usize, told: &mut [u64; 2]) -> u64
     ensures code { result ≡ code_of answer }
     ensures told { told.new ≡ told_by answer rise told.old }
 {
-    match answer {
-        Answer::Number(id) => {
-            told[0] = id.0;
-            told[1] = rise as u64;
-            0
-        }
-        Answer::Applied => 0,
-        Answer::Past => 256,
-        Answer::Stored => 257,
-        Answer::Done => 0,
-        Answer::Rendered(_) => 0,
-        Answer::Refused(n) => n,
+    if let Answer::Number(id) = answer {
+        told[0] = id.0;
+        told[1] = rise as u64;
     }
+    code_of(answer)
 }
 
 // Puts how an accepted block's places were computed; a refused one puts nothing. Answers 0 or the refusal.
@@ -95,18 +80,10 @@ pub(crate) fn tell_block(answer: Answer, places: &mut [u64; 3]) -> u64
     ensures code { result ≡ code_of answer }
     ensures places { places.new ≡ places_by answer places.old }
 {
-    match answer {
-        Answer::Number(_) => 0,
-        Answer::Applied => 0,
-        Answer::Past => 256,
-        Answer::Stored => 257,
-        Answer::Done => 0,
-        Answer::Rendered(p) => {
-            places[0] = p.kept;
-            places[1] = p.forced;
-            places[2] = p.edge;
-            0
-        }
-        Answer::Refused(n) => n,
+    if let Answer::Rendered(p) = answer {
+        places[0] = p.kept;
+        places[1] = p.forced;
+        places[2] = p.edge;
     }
+    code_of(answer)
 }

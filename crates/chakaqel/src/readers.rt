@@ -5,7 +5,6 @@ ghost use Rattle.memory.specs.Memory.{before, engine_of};
 ghost use Rattle.chakaqel.specs.Entries.{counts_by, place_code};
 
 use event::EventId;
-use lists::Found;
 use memory::{Levels, Marks, Numbers, Times};
 
 // The clock in seconds.
@@ -52,7 +51,7 @@ pub extern "C" fn chakaqel_place(
 {
     let found = live::place(times, levels, marks, numbers, EventId(number));
     match found {
-        Found::At(i) => i as u64,
-        Found::Nothing => 256,
+        Some(i) => i as u64,
+        None => 256,
     }
 }

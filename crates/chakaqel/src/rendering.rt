@@ -24,10 +24,10 @@ pub extern "C" fn chakaqel_tick(
     ensures answer { result ≡ (tick_entry (engine_of (before times.old levels.old marks.old numbers.old)) mark pool.now out.old).code }
     ensures refused { T (refusal result) → after times.new levels.new marks.new numbers.new ≡ before times.old levels.old marks.old numbers.old }
 {
-    if 1 < mark {
+    let Some(order) = order_of(mark) else {
         return 14;
-    }
-    let answer = live::tick(times, levels, marks, numbers, order_of(mark), pool, out);
+    };
+    let answer = live::tick(times, levels, marks, numbers, order, pool, out);
     code_of(answer)
 }
 
@@ -57,18 +57,9 @@ pub extern "C" fn chakaqel_process(
         pool.now out.old).told }
     ensures refused { T (refusal result) → after times.new levels.new marks.new numbers.new ≡ before times.old levels.old marks.old numbers.old }
 {
-    if 1 < mark {
+    let Some(order) = order_of(mark) else {
         return 14;
-    }
-    let answer = live::process(
-        times,
-        levels,
-        marks,
-        numbers,
-        order_of(mark),
-        size,
-        pool,
-        out,
-    );
+    };
+    let answer = live::process(times, levels, marks, numbers, order, size, pool, out);
     tell_block(answer, places)
 }

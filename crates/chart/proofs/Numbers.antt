@@ -1,14 +1,14 @@
 -- Whole numbers of a page, over plain variables. Assumes nothing.
-use Prim.Native.Nat.{ℕ, suc, ◌+◌, ◌-◌, ◌*◌, ◌/◌, ◌%◌, ◌^◌, ◌≤◌, ◌<◌, min}
-use mathlib.Core.Path.{◌≡◌, refl, sym, ap, ◌∙◌, subst}
+use Prim.Native.Nat.{ℕ, ◌+◌, ◌-◌, ◌*◌, ◌/◌, ◌≤◌, ◌<◌, min}
+use mathlib.Core.Path.{◌≡◌, refl, sym, ap, ◌∙◌}
 use mathlib.Core.Bool.{Bool, true, false, ◌||◌, cond}
-use mathlib.Core.Logic.{◌≢◌}
-use mathlib.Core.List.{List, [], ◌∷◌}
-use native.Mathlib.Nat.{zero-mul, zero-div, add-zero, mul-le-mul, mul-le-mul_right, div-le_self, div-le_of_le-mul, mul_comm, mod-lt}
+use mathlib.Core.Logic.{◌≢◌, ◌⊎◌, ⊎_elim}
+use mathlib.Core.List.{List}
+use native.Mathlib.Nat.{zero-mul, zero-div, add-zero, mul-le-mul, mul-le-mul_right, div-le_of_le-mul}
 use native.Mathlib.Numerals.{add-one}
 use native.Mathlib.Omega.{arith}
-use borrow.Author.Tests.{lt-ltb, le-ltb, eq-eqb, ne_eqb, le-leb, lt-leb}
-use lib.Dec.{ltb, leb, eqb}
+use borrow.Author.Tests.{lt-ltb, le-ltb, eq-eqb, ne_eqb}
+use lib.Dec.{ltb, eqb}
 use lib.ListN.{length, get_or, drop}
 use lib.Seq.{drop-cons}
 use Rattle.chart.specs.Scale.{latest, between_at, column_of, step_in}
@@ -16,7 +16,7 @@ use Rattle.chart.specs.Scale.{latest, between_at, column_of, step_in}
 -- ---- between
 
 module _ (a b k n : ℕ) where
-  pub between-empty : min b latest < min a latest → min a latest ≡ between_at a b k n
+  between-empty : min b latest < min a latest → min a latest ≡ between_at a b k n
   unfolding between_at
   between-empty h = go (eqb n 0 || ltb 64 n)
     where
@@ -27,13 +27,17 @@ module _ (a b k n : ℕ) where
       go true = refl
       go false = sym (ap (λ d. min a latest + d * min k n / n) gap ∙ ap (λ d. min a latest + d / n) (zero-mul (min k n)) ∙ ap (λ d. min a latest + d) (zero-div n) ∙ add-zero (min a latest))
 
-  pub between_none : n ≡ 0 → min a latest ≡ between_at a b k n
+  between_none : n ≡ 0 → min a latest ≡ between_at a b k n
   unfolding between_at
   between_none h = rw (eq-eqb n 0 h) refl
 
-  pub between_many : 64 < n → min a latest ≡ between_at a b k n
+  between_many : 64 < n → min a latest ≡ between_at a b k n
   unfolding between_at
   between_many h = rw (ne_eqb n 0 (λ e. absurd (omega (arith, e, h))), lt-ltb 64 n h) refl
+
+  -- the code's tests, in their order
+  pub between_no_place : (min b latest < min a latest) ⊎ (((min a latest ≤ min b latest) × (n ≡ 0)) ⊎ ((min a latest ≤ min b latest) × (n ≢ 0) × (64 < n))) → min a latest ≡ between_at a b k n
+  between_no_place x = ⊎_elim between-empty (⊎_elim (λ y. between_none y.1) (λ y. between_many y.2)) x
 
   pub between-at : n ≢ 0 → n ≤ 64 → min a latest + (min b latest - min a latest) * min k n / n ≡ between_at a b k n
   unfolding between_at

@@ -1,5 +1,5 @@
 -- The whole numbers of a page, by computation. Assumes nothing.
-use Rattle.std.specs.Prelude.{ℕ, ◌^◌, ◌-◌, false, ◌≡◌, refl, [], ◌∷◌, map, pos, negsuc}
+use Rattle.std.specs.Prelude.{◌^◌, ◌-◌, false, ◌≡◌, refl, [], ◌∷◌, map, pos, negsuc}
 use Rattle.std.specs.Float.{fin, inf}
 use Rattle.std.specs.Float.Ieee.{mul, round}
 use Rattle.floats.specs.Arithmetic.{whole}

@@ -1,6 +1,6 @@
 -- Columns keep the order of times: a later time stands no further left, the beginning stands at 0 and the end of the page at 1,400. Assumes nothing.
 use Rattle.std.specs.Prelude.{ℕ, zero, suc, ◌*◌, ◌/◌, ◌≤◌, ◌<◌, min, ◌≡◌, refl, Bool, true, false, cond, eqb}
-use Rattle.std.proofs.Common.{sym, ap, ◌∙◌, le-div_iff_mul-le, div-mul-le_self, le_trans, mul-le-mul_right, mul_comm, mul-div_cancel, le_refl, arith, ne_eqb}
+use Rattle.std.proofs.Common.{ap, ◌∙◌, le-div_iff_mul-le, div-mul-le_self, le_trans, mul-le-mul_right, mul_comm, mul-div_cancel, le_refl, arith, ne_eqb}
 use Rattle.std.proofs.lemmas.Bool.{eqb-false}
 use Rattle.chart.specs.Scale.{latest, column_of}
 

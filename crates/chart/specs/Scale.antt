@@ -1,6 +1,5 @@
 -- The whole numbers of a page: times in microseconds, columns, rows and heights. They run.
 use Rattle.std.specs.Prelude.{ℕ, ◌+◌, ◌-◌, ◌*◌, ◌/◌, ◌%◌, ◌^◌, min, ◌||◌, cond, List, [], ◌∷◌, ltb, leb, eqb, Float}
-use Rattle.std.specs.Float.Ieee.{mul}
 use Rattle.floats.specs.Arithmetic.{◌×ᵈ◌, whole}
 use Rattle.floats.specs.Floats.{index}
 

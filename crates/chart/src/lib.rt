@@ -1,8 +1,8 @@
 // The whole numbers of a page about a tape: times in microseconds, columns, rows, and heights of peaks.
 #![tactic(auto)]
 
-ghost use Rattle.std.specs.Prelude.{◌≡◌, ◌≤◌, min, get_or};
-ghost use Rattle.chart.specs.Scale.{micros_of, thousandths_of, later_by, between_at, column_of, x_of, breadth_of, lane_of, lanes_end, wave_of, scaled_of, height_of, steps, step_of};
+ghost use Rattle.std.specs.Prelude.{◌≡◌, ◌≤◌};
+ghost use Rattle.chart.specs.Scale.{micros_of, thousandths_of, later_by, between_at, column_of, x_of, breadth_of, lane_of, lanes_end, wave_of, scaled_of, height_of, step_of};
 
 // The latest time that a page knows: 2^50 microseconds, past refusal 12's limit of the clock.
 const LATEST: u64 = 0x4_0000_0000_0000;
@@ -10,23 +10,11 @@ const LATEST: u64 = 0x4_0000_0000_0000;
 // A page is so many columns wide.
 pub const WIDTH: u64 = 1400;
 
-fn wide(x: u32) -> u64
-    ensures { result ≡ x }
-{
-    x as u64
-}
-
-fn least(a: u64, b: u64) -> u64
-    ensures { result ≡ min a b }
-{
-    if a < b { a } else { b }
-}
-
 // The clock in microseconds, to the nearest.
 pub fn micros(clock: f64) -> u64
     ensures { result ≡ micros_of clock }
 {
-    least(floats::nearest_index(clock * 1000000.0), LATEST)
+    floats::nearest_index(clock * 1000000.0).min(LATEST)
 }
 
 // A number in thousandths, to the nearest; 0 for a NaN and below 0.
@@ -40,7 +28,7 @@ pub fn thousandths(x: f64) -> u64
 pub fn later(time: u64, by: u64) -> u64
     ensures { result ≡ later_by time by }
 {
-    least(least(time, LATEST) + least(by, LATEST), LATEST)
+    (time.min(LATEST) + by.min(LATEST)).min(LATEST)
 }
 
 // The column of a time on a page that ends at `total`.
@@ -48,11 +36,11 @@ pub fn column(time: u64, total: u64) -> u64
     ensures value { result ≡ column_of time total }
     ensures upper_bound { result ≤ 1_400 }
 {
-    let whole = least(total, LATEST);
+    let whole = total.min(LATEST);
     if whole == 0 {
         return 0;
     }
-    least(time, whole) * WIDTH / whole
+    time.min(whole) * WIDTH / whole
 }
 
 // The page's margin on the left.
@@ -80,7 +68,7 @@ pub fn lane(i: u64) -> u64
     ensures value { result ≡ lane_of i }
     ensures upper_bound { result ≤ 35_184_372_088_832 }
 {
-    let k = least(i, 0xff_ffff_ffff);
+    let k = i.min(0xff_ffff_ffff);
     210 + k / 64 * 1068 + k % 64 * 16
 }
 
@@ -97,25 +85,19 @@ pub fn wave(n: u64, channel: u64) -> u64
     ensures value { result ≡ wave_of n channel }
     ensures upper_bound { result ≤ 35_184_372_089_608 }
 {
-    lanes_end(n) + 40 + least(channel, 8) * 90
+    lanes_end(n) + 40 + channel.min(8) * 90
 }
 
 // The time of place k of n from a time up to another.
 pub fn between(from: u64, to: u64, k: u64, n: u64) -> u64
     ensures { result ≡ between_at from to k n }
 {
-    let begin = least(from, LATEST);
-    let end = least(to, LATEST);
-    if end < begin {
+    let begin = from.min(LATEST);
+    let end = to.min(LATEST);
+    if end < begin || n == 0 || 64 < n {
         return begin;
     }
-    if n == 0 {
-        return begin;
-    }
-    if 64 < n {
-        return begin;
-    }
-    begin + (end - begin) * least(k, n) / n
+    begin + (end - begin) * k.min(n) / n
 }
 
 // The magnitude of an f32's bits times a scale, rounded down; 2^64 - 1 from 2^23 on, for an infinity and for a NaN.
@@ -130,8 +112,7 @@ pub fn scaled(bits: u32, scale: u32) -> u64
     if e < 87 {
         return 0;
     }
-    let digits = wide(0x80_0000 + m % 0x80_0000);
-    digits * wide(scale) >> (150 - e)
+    u64::from(0x80_0000 + m % 0x80_0000) * u64::from(scale) >> (150 - e)
 }
 
 // How high a peak stands on a page where 1.0 is so high.
@@ -139,7 +120,7 @@ pub fn height(bits: u32, full: u32) -> u64
     ensures value { result ≡ height_of bits full }
     ensures upper_bound { result ≤ full }
 {
-    least(scaled(bits, full), wide(full))
+    scaled(bits, full).min(u64::from(full))
 }
 
 const STEPS: [u64; 35] = [
@@ -180,23 +161,14 @@ const STEPS: [u64; 35] = [
     8640000000000,
 ];
 
-fn step_at(i: usize) -> u64
-    ensures { result ≡ get_or steps i 0 }
-{
-    if i < 35 { STEPS[i] } else { 0 }
-}
-
 // The time between two marks of the axis: the first of the table that makes at most 14 of them.
 pub fn step(total: u64) -> u64
     ensures { result ≡ step_of total }
 {
-    let mut i: usize = 0;
-    while i < 35 {
-        let s = step_at(i);
-        if total / 14 < s {
-            return s;
+    for s in &STEPS {
+        if total / 14 < *s {
+            return *s;
         }
-        i = i + 1;
     }
     86400000000000
 }

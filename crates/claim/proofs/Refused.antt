@@ -10,8 +10,8 @@ use Rattle.ledger.specs.Refusals.{stated_end, edit_end}
 use Rattle.ledger.specs.Steps.{pushed_time}
 use Rattle.ledger.specs.Refused.{refused_with}
 use Rattle.refusals.specs.Refusals.{push_refusal, edit_refusal, tick_refusal, process_refusal, rate_refusal}
-use Rattle.lists.specs.declared.Found.{Found}
-use Rattle.lists.specs.declared.Found.TheVariants.{At, Nothing}
+use Rattle.std.specs.declared.option.Option.{Option as Found}
+use Rattle.std.specs.declared.option.Option.TheVariants.{Some, None}
 use Rattle.sequencer.specs.declared.Sequencer.{Sequencer}
 use Rattle.sequencer.specs.declared.Outcome.{Outcome}
 use Rattle.sequencer.specs.Answers.{answer_of, accepts}
@@ -30,11 +30,11 @@ by_test : (s : Sequencer) (k n : ℕ) (b : Bool) (o : Outcome) (f : Bool → Lis
 by_test s k n true o f free h = absurd (let z : some k ≡ none = ap refused_with (sym h) ∙ free in let w : ◌≡◌ {A = ℕ} 0 1 = cc in omega arith)
 by_test s k n false o f free h = (refl, refl)
 
-changed_free : (s : Sequencer) (k : EventId) (d : Edit) (f : Found) (over : Bool) → refused_with (answer_of (changed_by s k d f over).answer) ≡ none
+changed_free : (s : Sequencer) (k : EventId) (d : Edit) (f : Found ℕ) (over : Bool) → refused_with (answer_of (changed_by s k d f over).answer) ≡ none
 unfolding changed_by
-changed_free s k d (At i) over = refl
-changed_free s k d Nothing true = refl
-changed_free s k d Nothing false = refl
+changed_free s k d (Some i) over = refl
+changed_free s k d None true = refl
+changed_free s k d None false = refl
 
 pub refused-unchanged : (s : Sequencer) (c : Call) (k : ℕ) → (engine_call s c).1.answer ≡ refused k → Unchanged s c (engine_call s c)
 unfolding pushes pushes_to admitted edits amended changed ticks tick_outs blocks block_outs rates

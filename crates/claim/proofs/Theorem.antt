@@ -1,19 +1,17 @@
 -- Demand 3. After any list of calls from any creation, the engine is the plain ledger: one claim, whose sentences are those of `ClaimAt`. And a call that no refusal of document 01 names is carried out: what it gives back and leaves is the ledger's `accept`. Assumes nothing.
-use Rattle.std.specs.Prelude.{ℕ, ◌^◌, ◌%◌, ◌<◌, ◌≡◌, List}
+use Rattle.std.specs.Prelude.{ℕ, ◌^◌, ◌<◌, ◌≡◌, List}
 use Rattle.std.proofs.Common.{subst}
 use Rattle.std.proofs.Math.Option.{Option, none}
 use Rattle.event.specs.declared.ReplayMode.{ReplayMode}
 use Rattle.ledger.specs.Calls.{Call}
-use Rattle.ledger.specs.Ledger.{Ledger, create}
+use Rattle.ledger.specs.Ledger.{create}
 use Rattle.ledger.specs.Refusals.{refusal}
-use Rattle.ledger.specs.Steps.{Outcome, accept, decide, step, run}
-use Rattle.ledger.specs.Claim.{Engine, calls, ledger_after, SameState, SameReply, IndexGivesPlaces, Lends, AllLend, Claim}
+use Rattle.ledger.specs.Steps.{accept, decide, step}
+use Rattle.ledger.specs.Claim.{ledger_after, Lends, AllLend, Claim}
 use Rattle.ledger.proofs.Lawful.{step_lawful}
 use Rattle.ledger.proofs.ClaimByRelation.{claim_by_relation, reached}
-use Rattle.sequencer.specs.declared.Sequencer.{Sequencer}
 use Rattle.claim.specs.Related.{Related}
 use Rattle.claim.specs.Creating.{related_creation}
-use Rattle.claim.specs.View.{view_of}
 use Rattle.claim.specs.Shows.{shows}
 use Rattle.claim.specs.EngineCalls.{engine_new, engine_call, engine}
 use Rattle.claim.specs.CarriedOut.{after, Does}

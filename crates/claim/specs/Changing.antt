@@ -10,8 +10,8 @@ use Rattle.ledger.specs.Lists.{has, place_of, edit_of}
 use Rattle.ledger.specs.Ledger.{Ledger}
 use Rattle.ledger.specs.Steps as Plain
 use Rattle.ledger.specs.Steps.{change}
-use Rattle.lists.specs.declared.Found.{Found}
-use Rattle.lists.specs.declared.Found.TheVariants.{At, Nothing}
+use Rattle.std.specs.declared.option.Option.{Option as Found}
+use Rattle.std.specs.declared.option.Option.TheVariants.{Some, None}
 use Rattle.lists.specs.EditList.{edits-insert}
 use Rattle.lists.specs.Index.{found_id}
 use Rattle.lists.specs.Numbered.{place_none, none-place}
@@ -41,14 +41,14 @@ module _ (s : Sequencer) (l : Ledger) (k : EventId) (d : Edit) where
       some_none : (i : ℕ) → some i ≡ none → ⊥
       some_none i q = let z : ◌≡◌ {A = ℕ} 0 1 = cc in omega arith
 
-      go : (f : Found) → found_id (index_of s) k ≡ f → (b : Bool) → has k.0 l.sounding ≡ b → (o : Bool) → Room b o → Same (changed_by s k d f o) (change l k.0 d b o)
-      go (At i) q true h o n =
+      go : (f : Found ℕ) → found_id (index_of s) k ≡ f → (b : Bool) → has k.0 l.sounding ≡ b → (o : Bool) → Room b o → Same (changed_by s k d f o) (change l k.0 d b o)
+      go (Some i) q true h o n =
           let e = (listed-edit k d i q (r.lists.1, r.lists.2)).1 in
           (record { lists = (r.lists.0, e.0, e.1, r.lists.3, r.lists.4); plain = r.plain }, refl)
-      go (At i) q false h o n = absurd (some_none i (sym (ap place_found q) ∙ place_is ∙ none-place k.0 l.sounding h))
-      go Nothing q true h o n = absurd (true≢false (sym h ∙ place_none k.0 l.sounding (sym place_is ∙ ap place_found q)))
-      go Nothing q false h true n = (r, refl)
-      go Nothing q false h false n =
+      go (Some i) q false h o n = absurd (some_none i (sym (ap place_found q) ∙ place_is ∙ none-place k.0 l.sounding h))
+      go None q true h o n = absurd (true≢false (sym h ∙ place_none k.0 l.sounding (sym place_is ∙ ap place_found q)))
+      go None q false h true n = (r, refl)
+      go None q false h false n =
           (record { lists = (r.lists.0, r.lists.1, r.lists.2, r.lists.3, edits-insert s.edit_map k l.edits r.lists.4 d (n refl refl)); plain = r.plain }, refl)
 
   pub related_change : Room (has k.0 l.sounding) (d.end_time <ᶠ l.threshold) → Related s l

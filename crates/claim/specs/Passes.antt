@@ -1,7 +1,7 @@
 -- The engine's pass over an array, on the list that the array holds: each element is replaced by `next` of it, and all are added to a sum, in the order of the call. Assumes nothing.
 use Rattle.std.specs.Prelude.{◌≡◌, get_or, set, take}
 use Rattle.std.proofs.Math.Path.{refl, ap}
-use Rattle.std.proofs.Common.{sym, ap₂, ◌∙◌, arith, length-drop, take-append-drop, take_at, length-take-le}
+use Rattle.std.proofs.Common.{sym, ap₂, ◌∙◌, arith, length-drop, take-append-drop, take_at}
 use mathlib.Core.List.{List, [], ◌∷◌, ◌++◌, map, foldl, append_assoc, reverse, reverse_aux, reverse_aux-eq, reverse-reverse}
 use Prim.Native.Nat.{ℕ, zero, suc, ◌≤◌}
 use Rattle.std.proofs.Math.ListN.{length, drop, length-append}

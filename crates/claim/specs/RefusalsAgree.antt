@@ -5,6 +5,7 @@ use Rattle.std.proofs.Common.{sym, ◌∙◌, arith, ltb→lt, eq-eqb, ne_eqb, l
 use Rattle.std.proofs.Math.Option.{Option, none, some}
 use Rattle.std.proofs.Math.Decide.{ℕ_discrete, dec_lt}
 use Rattle.std.proofs.lemmas.Bool.{lt-leb}
+use Rattle.event.specs.declared.Edit.{Edit}
 use Rattle.event.specs.declared.Event.{Event}
 use Rattle.event.specs.declared.Fade.{Fade}
 use Rattle.event.specs.declared.MixOrder.{MixOrder}
@@ -12,10 +13,8 @@ use Rattle.event.specs.declared.Source.{Source}
 use Rattle.event.specs.declared.StoredEdit.{StoredEdit}
 use Rattle.floats.specs.Arithmetic.{◌-ᵈ◌, ◌<ᶠ◌}
 use Rattle.lists.specs.declared.EditMap.{EditMap}
-use Rattle.lists.specs.declared.Found.{Found}
-use Rattle.lists.specs.declared.Found.TheVariants.{At, Nothing}
-use Rattle.lists.specs.declared.FoundEdit.{FoundEdit}
-use Rattle.lists.specs.declared.FoundEdit.TheVariants.{Stored, Missing}
+use Rattle.std.specs.declared.option.Option.{Option as Found}
+use Rattle.std.specs.declared.option.Option.TheVariants.{Some, None}
 use Rattle.lists.specs.Edits.{found_edit}
 use Rattle.lists.specs.EditList.{edit_found}
 use Rattle.lists.specs.PlaceFound.{place_found}
@@ -78,14 +77,14 @@ module _ (k : ℕ) (s : List Event) (x : List StoredEdit) where
   abbrev must : (over : Bool) → Bool
   must over = not (has k s) && not over && missing (edit_of k x) && leb 256 (length x)
 
-  pub room-agrees : (f : Found) (over : Bool) (d : FoundEdit) (n : ℕ) → place_found f ≡ place_of k s → edit_found d ≡ edit_of k x → n ≡ length x → roomless f over d n ≡ must over
+  pub room-agrees : (f : Found ℕ) (over : Bool) (d : Found Edit) (n : ℕ) → place_found f ≡ place_of k s → edit_found d ≡ edit_of k x → n ≡ length x → roomless f over d n ≡ must over
   unfolding roomless
-  room-agrees (At i) over d n p q r = rw (place_some k s i (sym p))
-  room-agrees Nothing true d n p q r = rw (place_none k s (sym p))
-  room-agrees Nothing false (Stored d) n p q r = rw (place_none k s (sym p), ← q)
-  room-agrees Nothing false Missing n p q r = rw (place_none k s (sym p), ← q, r)
+  room-agrees (Some i) over d n p q r = rw (place_some k s i (sym p))
+  room-agrees None true d n p q r = rw (place_none k s (sym p))
+  room-agrees None false (Some d) n p q r = rw (place_none k s (sym p), ← q)
+  room-agrees None false None n p q r = rw (place_none k s (sym p), ← q, r)
 
-pub edit-refused : (l : Ledger) (kind : EditKind) (k : ℕ) (end fade_out : Float) (found : Found) (edits : EditMap) (θ until : Float)
+pub edit-refused : (l : Ledger) (kind : EditKind) (k : ℕ) (end fade_out : Float) (found : Found ℕ) (edits : EditMap) (θ until : Float)
     → place_found found ≡ place_of k l.sounding → edit_found (found_edit edits (record { 0 = k })) ≡ edit_of k l.edits → edits.len ≡ length l.edits
     → θ ≡ l.threshold → until ≡ edit_end kind l.clock end
     → Agrees (edit_refusal found edits θ (record { 0 = k }) end until fade_out) (refusal l (edit kind k end fade_out))

@@ -1,5 +1,5 @@
 -- The engine's samples are the ledger's: the pass over the sounding array gives the ledger's sum of a tick or a block, leaves the events as the ledger's stand after it, and the output written from it is the ledger's. Assumes nothing.
-use Rattle.std.specs.Prelude.{Bool, true, false, cond, ◌≡◌, ℕ, zero, suc, ◌-◌, ◌≤◌, min, ltb, Float, length, take, replicate}
+use Rattle.std.specs.Prelude.{Bool, true, false, cond, ◌≡◌, ℕ, ◌-◌, ◌≤◌, min, ltb, Float, length, take, replicate}
 use Rattle.std.proofs.Math.Path.{refl, ap}
 use Rattle.std.proofs.Common.{sym, ap₂, ◌∙◌, subst, arith, take_all}
 use mathlib.Core.List.{List, [], ◌∷◌, ◌++◌, map, foldl, reverse_aux, append-nil}

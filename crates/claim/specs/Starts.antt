@@ -20,10 +20,8 @@ use Rattle.ledger.specs.Lists.{start, Started, with_edit, edit_of, drop_edit}
 use Rattle.ledger.specs.Sorted.{Sorted}
 use Rattle.ready.proofs.Waits.{waits-length}
 use Rattle.lists.specs.declared.EditMap.{EditMap}
-use Rattle.lists.specs.declared.Found.{Found}
-use Rattle.lists.specs.declared.Found.TheVariants.{At, Nothing}
-use Rattle.lists.specs.declared.FoundEdit.{FoundEdit}
-use Rattle.lists.specs.declared.FoundEdit.TheVariants.{Stored, Missing}
+use Rattle.std.specs.declared.option.Option.{Option as Found}
+use Rattle.std.specs.declared.option.Option.TheVariants.{Some, None}
 use Rattle.lists.specs.Edits.{found_at, found_edit, removed_at, removed, placed}
 use Rattle.lists.specs.EditList.{Edits, edit_found, edits_find, edits_remove}
 use Rattle.lists.specs.Holds.{holds-length}
@@ -62,13 +60,13 @@ module _ (θ : Float) (e : Event) (w a : List Event) (x : List StoredEdit) where
   start-late h = rw (h, start)
 
 -- a number without an edit: taking its edit out changes nothing
-removed-none : (m : EditMap) (k : EventId) → found_edit m k ≡ Missing → removed m k ≡ m
+removed-none : (m : EditMap) (k : EventId) → found_edit m k ≡ None → removed m k ≡ m
 unfolding found_edit removed
 removed-none m k h = go (placed m k) h
   where
-    go : (f : Found) → found_at m f ≡ Missing → removed_at m f ≡ m
-    go (At i) q = absurd (let z : ◌≡◌ {A = ℕ} 0 1 = cc in omega arith)
-    go Nothing q = refl
+    go : (f : Found ℕ) → found_at m f ≡ None → removed_at m f ≡ m
+    go (Some i) q = absurd (let z : ◌≡◌ {A = ℕ} 0 1 = cc in omega arith)
+    go None q = refl
 
 module _ (l : Ledger) (f : List Event) where
   -- the engine's lists, and the rest of the ledger as it was
@@ -98,15 +96,15 @@ module _ (l : Ledger) (f : List Event) where
       rest : Edits (removed m e.id) x'
       rest = edits_remove m e.id x r.0.4
 
-      edit-is : (y : FoundEdit) → found_edit m e.id ≡ y → edit_found y ≡ edit_of (number_of e) x
+      edit-is : (y : Found Edit) → found_edit m e.id ≡ y → edit_found y ≡ edit_of (number_of e) x
       edit-is y h = ap edit_found (sym h) ∙ edits_find m e.id x r.0.4
 
-      go : (y : FoundEdit) → found_edit m e.id ≡ y → Both (activated_by s e y) w (a ++ (with_edit (edit_of (number_of e) x) e ∷ [])) x'
-      go (Stored d) h =
-          subst (λ (o : Option Edit). Both (activated_by s e (Stored d)) w (a ++ (with_edit o e ∷ [])) x') (edit-is (Stored d) h)
+      go : (y : Found Edit) → found_edit m e.id ≡ y → Both (activated_by s e y) w (a ++ (with_edit (edit_of (number_of e) x) e ∷ [])) x'
+      go (Some d) h =
+          subst (λ (o : Option Edit). Both (activated_by s e (Some d)) w (a ++ (with_edit o e ∷ [])) x') (edit-is (Some d) h)
           (both_move (with_edits s (removed m e.id)) e (edited_by d e) w a x' q room ((r.0.0, r.0.1, r.0.2, r.0.3, rest), r.1))
-      go Missing h =
-          subst (λ (o : Option Edit). Both (activated_by s e Missing) w (a ++ (with_edit o e ∷ [])) x') (edit-is Missing h)
+      go None h =
+          subst (λ (o : Option Edit). Both (activated_by s e None) w (a ++ (with_edit o e ∷ [])) x') (edit-is None h)
           (both_move s e e w a x' q room ((r.0.0, r.0.1, r.0.2, r.0.3, subst (λ (n : EditMap). Edits n x') (removed-none m e.id h) rest), r.1))
 
   -- ---- while the first starts before θ

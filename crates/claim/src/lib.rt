@@ -3,8 +3,8 @@
 
 ghost use Rattle.std.specs.Prelude.{◌≡◌};
 
-use event::{Event, ReplayMode, StoredEdit};
-use lists::{ActiveMap, EditMap, Found, FoundEdit};
+use event::{Edit, Event, ReplayMode, StoredEdit};
+use lists::{ActiveMap, EditMap};
 use mixing::Span;
 use ready::Ready;
 use sequencer::Outcome;
@@ -16,8 +16,8 @@ pub fn uses(
     _mode: ReplayMode,
     _index: ActiveMap,
     _edits: EditMap,
-    _found: Found,
-    _edit: FoundEdit,
+    _found: Option<usize>,
+    _edit: Option<Edit>,
     _span: Span,
     _heap: Ready,
     _outcome: Outcome,

@@ -13,8 +13,8 @@ use Rattle.ledger.specs.Calls.{PushKind, absolute, relative, by_duration, EditKi
 use Rattle.ledger.specs.Ledger.{Ledger, held}
 use Rattle.ledger.specs.Refusals.{stated_end, edit_end}
 use Rattle.ledger.specs.Steps.{pushed_time, enter, accept}
-use Rattle.lists.specs.declared.Found.{Found}
-use Rattle.lists.specs.declared.Found.TheVariants.{At, Nothing}
+use Rattle.std.specs.declared.option.Option.{Option}
+use Rattle.std.specs.declared.option.Option.TheVariants.{Some, None as Missing}
 use Rattle.lists.specs.Index.{found_id}
 use Rattle.sequencer.specs.declared.Sequencer.{Sequencer}
 use Rattle.sequencer.specs.Parts.{with_active, with_next}
@@ -61,11 +61,11 @@ pushed-next s n e =
     ∙ ap (λ (x : Sequencer). cond b (with_next (pushed_active s e) n) x) (ready_next s n e)
     ∙ cond-next b (pushed_active s e) (pushed_ready s e) n
 
-changed_by_next : (s : Sequencer) (n : ℕ) (k : EventId) (d : Edit) (f : Found) (over : Bool) → (changed_by (with_next s n) k d f over).sequencer ≡ with_next (changed_by s k d f over).sequencer n
+changed_by_next : (s : Sequencer) (n : ℕ) (k : EventId) (d : Edit) (f : Option ℕ) (over : Bool) → (changed_by (with_next s n) k d f over).sequencer ≡ with_next (changed_by s k d f over).sequencer n
 unfolding changed_by
-changed_by_next s n k d (At i) over = refl
-changed_by_next s n k d Nothing true = refl
-changed_by_next s n k d Nothing false = refl
+changed_by_next s n k d (Some i) over = refl
+changed_by_next s n k d Missing true = refl
+changed_by_next s n k d Missing false = refl
 
 changed-next : (s : Sequencer) (n : ℕ) (k : EventId) (d : Edit) → (changed (with_next s n) k d).sequencer ≡ with_next (changed s k d).sequencer n
 unfolding changed

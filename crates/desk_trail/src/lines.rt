@@ -1,12 +1,26 @@
 // A record's lines, written out: what they are is told by the contracts of crate `listing`.
 ghost use Rattle.std.specs.Prelude.{◌≡◌, false};
+ghost use Rattle.std.specs.Result.{IfOk};
 
 use sequencer::Counts;
+use std::io;
 use std::io::Write;
 use tape::reader::Read;
 
-// Whether the line was written.
-pub(crate) fn list_counts<W: Write>(out: &mut W, kind: u8, refusal: u64, counts: Counts) -> bool {
+// What an accepted tick or block has left in the output: `each` samples of every channel, `stride` places apart.
+#[derive(Clone, Copy)]
+pub(crate) struct Sound {
+    pub channels: usize,
+    pub each: usize,
+    pub stride: usize,
+}
+
+pub(crate) fn list_counts<W: Write>(
+    out: &mut W,
+    kind: u8,
+    refusal: u64,
+    counts: Counts,
+) -> io::Result<()> {
     let mut text = [0u8; 128];
     let n = listing::counts_line(
         kind,
@@ -17,80 +31,53 @@ pub(crate) fn list_counts<W: Write>(out: &mut W, kind: u8, refusal: u64, counts:
         counts.let_go,
         &mut text,
     );
-    if n <= 128 {
-        out.write_all(&text[..n]).is_ok()
-    } else {
-        false
-    }
+    out.write_all(&text[..n.min(128)])
 }
 
-// A line for each channel; false where one was not written.
-fn list_samples<W: Write>(
-    out: &mut W,
-    samples: &[f32],
-    channels: usize,
-    each: usize,
-    stride: usize,
-) -> bool {
+// A line for each channel.
+fn list_samples<W: Write>(out: &mut W, samples: &[f32], sound: Sound) -> io::Result<()> {
     let mut text = [0u8; 576];
-    let mut left = channels;
-    let mut from: usize = 0;
-    while left > 0 {
+    let mut from = 0;
+    for _ in 0..sound.channels {
         if samples.len() <= from {
-            return true;
+            return Ok(());
         }
-        if samples.len() - from < each {
-            return true;
+        let left = samples.len() - from;
+        if left < sound.each || left < sound.stride {
+            return Ok(());
         }
-        if samples.len() - from < stride {
-            return true;
-        }
-        let n = listing::samples_line(&samples[from..from + each], &mut text);
-        if 576 < n {
-            return false;
-        }
-        if out.write_all(&text[..n]).is_err() {
-            return false;
-        }
-        from = from + stride;
-        left = left - 1;
+        let n = listing::samples_line(&samples[from..from + sound.each], &mut text);
+        out.write_all(&text[..n.min(576)])?;
+        from += sound.stride;
     }
-    true
+    Ok(())
 }
 
-// Lists a record that was carried out or refused; false where the listing ends: at refusal 1, and where a line was not written.
+// Lists a record that was carried out or refused; false where the listing ends, at refusal 1.
 pub(crate) fn list<W: Write>(
     out: &mut W,
     kind: u8,
     refusal: u64,
     counts: Counts,
     samples: &[f32],
-    channels: usize,
-    each: usize,
-    stride: usize,
-) -> bool
-    ensures { refusal ≡ 1 → result ≡ false }
+    sound: Option<Sound>,
+) -> io::Result<bool>
+    ensures { refusal ≡ 1 → IfOk result (λ more. more ≡ false) }
 {
-    if !list_counts(out, kind, refusal, counts) {
-        return false;
-    }
+    list_counts(out, kind, refusal, counts)?;
     if refusal == 1 {
-        return false;
+        return Ok(false);
     }
-    list_samples(out, samples, channels, each, stride)
+    if let Some(sound) = sound {
+        list_samples(out, samples, sound)?;
+    }
+    Ok(true)
 }
 
 // The line of a record that 14 or 15 refuses.
-pub(crate) fn stop<W: Write>(out: &mut W, r: Read, counts: Counts) {
-    match r {
-        Read::Refused { kind, number } => {
-            list_counts(out, kind, number as u64, counts);
-        }
-        Read::End => {}
-        Read::Record {
-            kind: _,
-            call: _,
-            next: _,
-        } => {}
+pub(crate) fn stop<W: Write>(out: &mut W, r: Read, counts: Counts) -> io::Result<()> {
+    if let Read::Refused { kind, number } = r {
+        list_counts(out, kind, number as u64, counts)?;
     }
+    Ok(())
 }

@@ -7,68 +7,57 @@ mod lines;
 ghost use Rattle.std.specs.Prelude.{◌≤◌};
 
 use event::MixOrder;
+use lines::Sound;
 use realseq::{Answer, Outcome, SequencerBackend};
-use runs::least;
 use sequencer::{Counts, Sequencer};
 use std::io;
 use std::io::{BufWriter, Write};
-use tape::reader::{Call, Cursor, PushRecord, Read};
+use tape::reader::{Call, Cursor, Read};
 
 // ---- calls
 
-// The desk after a call, its answer, the refusal or 0, and what an accepted tick or block has left in the output.
+// The desk after a call, its answer, and what an accepted tick or block has left in the output.
 #[derive(Clone, Copy)]
 struct Played {
     backend: SequencerBackend,
     answer: Answer,
-    refusal: u64,
-    channels: usize,
-    each: usize,
-    stride: usize,
+    sound: Option<Sound>,
 }
 
-fn refusal(answer: Answer) -> u64 {
+// The number of a refusal.
+fn refusal(answer: Answer) -> Option<u64> {
     match answer {
-        Answer::Refused(n) => n,
-        Answer::Number(_) => 0,
-        Answer::Queued => 0,
-        Answer::Done => 0,
-        Answer::Rendered(_) => 0,
+        Answer::Refused(n) => Some(n),
+        Answer::Number(_) => None,
+        Answer::Queued => None,
+        Answer::Done => None,
+        Answer::Rendered(_) => None,
     }
 }
 
 // A call that has no samples.
 fn quiet(backend: SequencerBackend, answer: Answer) -> Played {
-    let n = refusal(answer);
     Played {
         backend,
         answer,
-        refusal: n,
-        channels: 0,
-        each: 0,
-        stride: 0,
+        sound: None,
     }
 }
 
 fn silent(r: Outcome) -> Played {
-    let answer = r.answer;
-    let backend = r.backend;
-    quiet(backend, answer)
+    quiet(r.backend, r.answer)
 }
 
-fn sounding(r: Outcome, channels: usize, each: usize, stride: usize) -> Played {
+fn sounding(r: Outcome, sound: Sound) -> Played {
     let mut p = silent(r);
-    if p.refusal == 0 {
-        p.channels = channels;
-        p.each = each;
-        p.stride = stride;
+    if refusal(p.answer).is_none() {
+        p.sound = Some(sound);
     }
     p
 }
 
 fn outputs(d: SequencerBackend) -> usize {
-    let s = d.sequencer;
-    s.outputs
+    d.sequencer.outputs
 }
 
 fn tick(
@@ -79,9 +68,16 @@ fn tick(
     samples: &mut [f32],
 ) -> Played {
     let channels = outputs(d);
-    let n = least(length, samples.len());
+    let n = length.min(samples.len());
     let r = d.tick(order, pool, &mut samples[..n]);
-    sounding(r, channels, 1, 1)
+    sounding(
+        r,
+        Sound {
+            channels,
+            each: 1,
+            stride: 1,
+        },
+    )
 }
 
 fn process(
@@ -93,9 +89,16 @@ fn process(
     samples: &mut [f32],
 ) -> Played {
     let channels = outputs(d);
-    let n = least(length, samples.len());
+    let n = length.min(samples.len());
     let r = d.process(order, size, pool, &mut samples[..n]);
-    sounding(r, channels, size, 64)
+    sounding(
+        r,
+        Sound {
+            channels,
+            each: size,
+            stride: 64,
+        },
+    )
 }
 
 // A tick and a block that are lent as much as they want.
@@ -111,43 +114,16 @@ fn whole_block(
     pool: &[f32],
     samples: &mut [f32],
 ) -> Played {
-    let length = 64 * least(outputs(d), 8);
+    let length = 64 * outputs(d).min(8);
     process(d, order, size as usize, length, pool, samples)
 }
 
 fn create(channels: u8, mode: event::ReplayMode, first: u64) -> Played {
     let made = Sequencer::new(channels as usize, mode, first);
-    let answer = made.answer;
-    let s = made.sequencer;
-    quiet(SequencerBackend::new(s), created(answer))
-}
-
-// A creation is refused or done.
-fn created(answer: sequencer::Answer) -> Answer {
-    match answer {
-        sequencer::Answer::Refused(n) => Answer::Refused(n),
-        sequencer::Answer::Number(_) => Answer::Done,
-        sequencer::Answer::Applied => Answer::Done,
-        sequencer::Answer::Past => Answer::Done,
-        sequencer::Answer::Stored => Answer::Done,
-        sequencer::Answer::Done => Answer::Done,
-        sequencer::Answer::Rendered(_) => Answer::Done,
-    }
-}
-
-fn push(d: SequencerBackend, kind: u8, p: PushRecord) -> Outcome {
-    let start = p.start_time;
-    let end = p.end_time;
-    let ease = p.fade_ease;
-    let fade_in = p.fade_in;
-    let fade_out = p.fade_out;
-    let source = p.source;
-    let gain = p.gain;
-    match kind {
-        1 => d.push(start, end, ease, fade_in, fade_out, source, gain),
-        2 => d.push_relative(start, end, ease, fade_in, fade_out, source, gain),
-        _ => d.push_duration(start, end, ease, fade_in, fade_out, source, gain),
-    }
+    quiet(
+        SequencerBackend::new(made.sequencer),
+        Answer::from(made.answer),
+    )
 }
 
 fn play(d: SequencerBackend, call: Call, pool: &[f32], samples: &mut [f32]) -> Played {
@@ -157,17 +133,35 @@ fn play(d: SequencerBackend, call: Call, pool: &[f32], samples: &mut [f32]) -> P
             mode,
             first,
         } => create(channels, mode, first),
-        Call::Push(p) => silent(push(d, 1, p)),
-        Call::PushRelative(p) => silent(push(d, 2, p)),
-        Call::PushDuration(p) => silent(push(d, 3, p)),
-        Call::Edit(p) => {
-            let id = p.id;
-            silent(d.edit(id, p.end_time, p.fade_out))
-        }
-        Call::EditRelative(p) => {
-            let id = p.id;
-            silent(d.edit_relative(id, p.end_time, p.fade_out))
-        }
+        Call::Push(p) => silent(d.push(
+            p.start_time,
+            p.end_time,
+            p.fade_ease,
+            p.fade_in,
+            p.fade_out,
+            p.source,
+            p.gain,
+        )),
+        Call::PushRelative(p) => silent(d.push_relative(
+            p.start_time,
+            p.end_time,
+            p.fade_ease,
+            p.fade_in,
+            p.fade_out,
+            p.source,
+            p.gain,
+        )),
+        Call::PushDuration(p) => silent(d.push_duration(
+            p.start_time,
+            p.end_time,
+            p.fade_ease,
+            p.fade_in,
+            p.fade_out,
+            p.source,
+            p.gain,
+        )),
+        Call::Edit(p) => silent(d.edit(p.id, p.end_time, p.fade_out)),
+        Call::EditRelative(p) => silent(d.edit_relative(p.id, p.end_time, p.fade_out)),
         Call::Tick => whole_tick(d, MixOrder::Forward, pool, samples),
         Call::Process(n) => whole_block(d, MixOrder::Forward, n, pool, samples),
         Call::Reset => quiet(d.reset(), Answer::Done),
@@ -177,35 +171,26 @@ fn play(d: SequencerBackend, call: Call, pool: &[f32], samples: &mut [f32]) -> P
 
 // ---- the kinds of a script: 10 the front's reset, 11 a tick and 12 a block with an output of a given length, 13 the pool's length, 15 a tick and 16 a block with the mark
 
-// A record's size, or 0 where the tape's reader reads it: the first record, and every other kind.
-fn script_size(first: bool, kind: u8) -> usize {
-    if first {
-        return 0;
-    }
+// A record's size, where it is none that the tape's reader reads.
+fn script_size(kind: u8) -> Option<usize> {
+    // The kinds are the bytes of the script, here and in `play_script`: an enum of them would be matched once more.
     match kind {
-        16 => 1,
-        17 => 3,
-        18 => 6,
-        19 => 3,
-        21 => 1,
-        22 => 2,
-        _ => 0,
+        16 => Some(1),
+        17 => Some(3),
+        18 => Some(6),
+        19 => Some(3),
+        21 => Some(1),
+        22 => Some(2),
+        _ => None,
     }
-}
-
-fn length_of(low: u8, high: u8) -> usize {
-    low as usize + 256 * (high as usize)
 }
 
 // Two little-endian bytes; 0 where they are not both there.
 fn short(bs: &[u8], at: usize) -> usize {
-    if bs.len() <= at {
+    if bs.len() <= at || bs.len() - at < 2 {
         return 0;
     }
-    if bs.len() - at < 2 {
-        return 0;
-    }
-    length_of(bs[at], bs[at + 1])
+    usize::from(u16::from_le_bytes([bs[at], bs[at + 1]]))
 }
 
 fn byte_at(bs: &[u8], at: usize) -> u8 {
@@ -217,9 +202,9 @@ fn lent(kind: u8, bs: &[u8], pool: usize, most: usize) -> usize
     ensures { result ≤ most }
 {
     if kind == 19 {
-        return least(short(bs, 1), most);
+        return short(bs, 1).min(most);
     }
-    least(pool, most)
+    pool.min(most)
 }
 
 fn play_script(
@@ -247,92 +232,80 @@ fn play_script(
 }
 
 fn counts(d: SequencerBackend) -> Counts {
-    let s = d.sequencer;
-    s.counts()
+    d.sequencer.counts()
 }
 
-fn stop<W: Write>(out: &mut W, r: Read, d: SequencerBackend) {
-    lines::stop(out, r, counts(d))
-}
-
-// Writes the line of a record's answer and of the desk behind it; false where it was not written.
-fn list_desk<W: Write>(out: &mut W, kind: u8, answer: Answer, d: SequencerBackend) -> bool {
+// Writes the line of a record's answer and of the desk behind it.
+fn list_desk<W: Write>(
+    out: &mut W,
+    kind: u8,
+    answer: Answer,
+    d: SequencerBackend,
+) -> io::Result<()> {
     let mut text = [0u8; 1024];
     let n = state_listing::desk_line(kind, answer, d, &mut text);
     if n <= 1024 {
-        return out.write_all(&text[..n]).is_ok();
+        out.write_all(&text[..n])?;
     }
-    true
+    Ok(())
 }
 
 // Lists an applied record and the state; false where the listing ends there.
-fn list<W: Write>(out: &mut W, kind: u8, p: Played, samples: &[f32]) -> bool {
+fn list<W: Write>(out: &mut W, kind: u8, p: Played, samples: &[f32]) -> io::Result<bool> {
     let d = p.backend;
-    if !lines::list(
-        out,
-        kind,
-        p.refusal,
-        counts(d),
-        samples,
-        p.channels,
-        p.each,
-        p.stride,
-    ) {
-        return false;
+    let no = refusal(p.answer).unwrap_or(0);
+    if !lines::list(out, kind, no, counts(d), samples, p.sound)? {
+        return Ok(false);
     }
-    let answer = p.answer;
-    list_desk(out, kind, answer, d)
+    list_desk(out, kind, p.answer, d)?;
+    Ok(true)
 }
 
 fn silence() -> [f32; 576] {
     [0.0; 576]
 }
 
-fn run<W: Write>(out: &mut W, script: &[u8], whole: &[f32]) {
+fn run<W: Write>(out: &mut W, script: &[u8], whole: &[f32]) -> io::Result<()> {
     let mut samples = silence();
     let made = Sequencer::new(1, event::ReplayMode::All, 1);
-    let s = made.sequencer;
-    let mut d = SequencerBackend::new(s);
+    let mut d = SequencerBackend::new(made.sequencer);
     let mut pool = whole.len();
     let mut first = true;
     let mut at: usize = 0;
-    let mut turns = script.len();
-    while turns > 0 {
-        turns = turns - 1;
+    for _ in 0..script.len() {
         let kind = byte_at(script, at);
-        let size = script_size(first, kind);
-        if size == 0 {
-            let c = Cursor { at, first };
-            let r = c.read(script);
-            let Read::Record { kind, call, next } = r else {
-                stop(out, r, d);
-                return;
-            };
-            let p = play(d, call, &whole[..pool], &mut samples);
-            d = p.backend;
-            if !list(out, kind, p, &samples) {
-                return;
-            }
-            first = next.first;
-            at = next.at;
-        } else {
+        let size = if first { None } else { script_size(kind) };
+        if let Some(size) = size {
             if script.len() <= at {
-                return;
+                return Ok(());
             }
             if script.len() - at < size {
-                lines::list_counts(out, kind, 15, counts(d));
-                return;
+                return lines::list_counts(out, kind, 15, counts(d));
             }
             let bs = &script[at..];
             pool = lent(kind, bs, pool, whole.len());
             let p = play_script(d, kind, bs, &whole[..pool], &mut samples);
             d = p.backend;
-            if !list(out, kind, p, &samples) {
-                return;
+            if !list(out, kind, p, &samples)? {
+                return Ok(());
             }
-            at = at + size;
+            at += size;
+        } else {
+            let c = Cursor { at, first };
+            let r = c.read(script);
+            let Read::Record { kind, call, next } = r else {
+                return lines::stop(out, r, counts(d));
+            };
+            let p = play(d, call, &whole[..pool], &mut samples);
+            d = p.backend;
+            if !list(out, kind, p, &samples)? {
+                return Ok(());
+            }
+            first = next.first;
+            at = next.at;
         }
     }
+    Ok(())
 }
 
 fn main(rt: HostRuntime) -> io::Result<()> {
@@ -340,6 +313,7 @@ fn main(rt: HostRuntime) -> io::Result<()> {
     let n = streams::read_full(&mut rt.stdin(), &mut buf);
     let mut out = BufWriter::new(rt.alloc(), rt.stdout())?;
     let pool = tape::pool::trail_pool();
-    run(&mut out, &buf[..n], &pool);
+    // A line that was not written ends the listing; the flush says whether the output was written.
+    let _listed = run(&mut out, &buf[..n], &pool);
     out.flush()
 }

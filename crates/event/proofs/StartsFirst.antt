@@ -8,7 +8,7 @@ use Rattle.std.specs.Float.Ieee.Bits.{of_bits-to_bits}
 use Rattle.floats.specs.Floats.{total_less, sooner}
 use Rattle.floats.specs.Ordered.{ordered}
 use Rattle.floats.specs.TotalOrder.{total_less_irreflexive, total_less_connected, ordered_equal}
-use Rattle.floats.specs.declared.Order.TheVariants.{Less, Equal, Greater}
+use Rattle.std.specs.declared.cmp.Ordering.TheVariants.{Less, Equal, Greater}
 use Rattle.event.specs.declared.Event.{Event}
 use Rattle.event.specs.Events.{earlier, number_of}
 use Rattle.event.specs.StartsFirst.{start_bits, Starts, numbered, is_equal}

@@ -1,5 +1,5 @@
 -- Document 01's numbers for the cases of the enums, as they stand on a tape.
-use Rattle.std.specs.Prelude.{ℕ, to_bits, Float}
+use Rattle.std.specs.Prelude.{ℕ, to_bits}
 use Rattle.std.specs.Float.{binary32}
 use Rattle.event.specs.declared.Fade.{Fade}
 use Rattle.event.specs.declared.Fade.TheVariants.{Power, Smooth}

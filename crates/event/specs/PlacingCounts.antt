@@ -1,5 +1,5 @@
 -- How the code counts a block's places: one after another, in 64 bits. Below 2 ^ 64 that is `tally`.
-use Rattle.std.specs.Prelude.{◌≡◌, ℕ, ◌+◌, ◌*◌, ◌%◌, ◌^◌, ◌<◌, ◌≤◌, List, [], ◌∷◌, ◌++◌, length, refl}
+use Rattle.std.specs.Prelude.{◌≡◌, ℕ, ◌+◌, ◌%◌, ◌^◌, ◌<◌, List, [], ◌∷◌, ◌++◌, length, refl}
 use Rattle.std.proofs.Common.{ap, ◌∙◌, arith}
 use Rattle.event.specs.declared.Placing.{Placing}
 use Rattle.event.specs.declared.Placing.TheVariants.{Kept, Forced, Edge}

@@ -3,8 +3,8 @@
 use Rattle.std.specs.Prelude.{ℕ, Bool, true, false, T, to_bits}
 use Rattle.std.specs.Float.{binary64}
 use Rattle.std.specs.Float.Ieee.{fits}
-use Rattle.floats.specs.declared.Order.{Order}
-use Rattle.floats.specs.declared.Order.TheVariants.{Less, Equal, Greater}
+use Rattle.std.specs.declared.cmp.Ordering.{Ordering}
+use Rattle.std.specs.declared.cmp.Ordering.TheVariants.{Less, Equal, Greater}
 use Rattle.event.specs.declared.Event.{Event}
 
 -- the bits of an event's start, and that it is an f64
@@ -28,7 +28,7 @@ numbered k e = record {
 }
 
 -- `precedes` opens the numbers where `total_cmp` answers Equal, which it does where the bits are equal and nowhere else
-abbrev pub is_equal : Order → Bool
+abbrev pub is_equal : Ordering → Bool
 is_equal Less = false
 is_equal Equal = true
 is_equal Greater = false

@@ -8,15 +8,15 @@ ghost use Rattle.event.specs.Sources.{first_value, at_start, sample_of, advanced
 ghost use Rattle.event.specs.Placings.{no_placings};
 ghost use Rattle.event.specs.PlacingCounts.{one_more};
 
-use floats::Order;
 use math::{sine_ease, smooth5};
+use std::cmp::Ordering;
 
 // The number of an event. It never serves as a list place.
-#[derive(Clone, Copy)]
+#[derive(Clone, Copy, PartialEq, Eq)]
 pub struct EventId(pub u64);
 
 // Fade curves.
-#[derive(Clone, Copy)]
+#[derive(Clone, Copy, PartialEq, Eq)]
 pub enum Fade {
     Power,
     Smooth,
@@ -35,14 +35,14 @@ impl Fade {
 }
 
 // Whether events are replayed after a reset.
-#[derive(Clone, Copy)]
+#[derive(Clone, Copy, PartialEq, Eq)]
 pub enum ReplayMode {
     All,
     None,
 }
 
 // The order in which a tick or block adds the sounding events: as their list has them, or, with document 02's mark (Paper 9), from its end.
-#[derive(Clone, Copy)]
+#[derive(Clone, Copy, PartialEq, Eq)]
 pub enum MixOrder {
     Forward,
     Backward,
@@ -79,10 +79,9 @@ impl Unit {
     pub fn new(source: Source) -> Unit
         ensures { result ≡ at_start source }
     {
-        let value = first_value(source);
         Unit {
-            source: source,
-            value: value,
+            source,
+            value: first_value(source),
             place: 0,
         }
     }
@@ -91,26 +90,22 @@ impl Unit {
     pub fn reset(self) -> Unit
         ensures { result ≡ at_start self.source }
     {
-        let source = self.source;
-        Unit::new(source)
+        Unit::new(self.source)
     }
 
     // The next sample: 0.0 past the clip and past the pool.
     pub fn sample(self, pool: &[f32]) -> f32
         ensures { result ≡ sample_of pool.now self }
     {
-        let source = self.source;
-        match source {
+        match self.source {
             Source::Held(level) => level,
             Source::Ramp(_, _) => self.value,
             Source::Clip(offset, length) => {
-                let place = self.place;
-                if place < length {
-                    let at = offset as usize + place as usize;
+                if self.place < length {
+                    let at = offset as usize + self.place as usize;
                     if at < pool.len() {
                         return pool[at];
                     }
-                    return 0.0;
                 }
                 0.0
             }
@@ -121,26 +116,21 @@ impl Unit {
     pub fn advance(mut self) -> Unit
         ensures { result ≡ advanced self }
     {
-        let source = self.source;
-        match source {
-            Source::Held(_) => self,
-            Source::Ramp(_, step) => {
-                self.value = self.value + step;
-                self
-            }
+        match self.source {
+            Source::Held(_) => {}
+            Source::Ramp(_, step) => self.value += step,
             Source::Clip(_, length) => {
-                let place = self.place;
-                if place < length {
-                    self.place = place + 1;
+                if self.place < length {
+                    self.place += 1;
                 }
-                self
             }
         }
+        self
     }
 }
 
 // How a place of a block came: kept as rounded, forced, or set at an edge without the index step.
-#[derive(Clone, Copy)]
+#[derive(Clone, Copy, PartialEq, Eq)]
 pub enum Placing {
     Kept,
     Forced,
@@ -172,19 +162,11 @@ impl Placings {
         ensures { result ≡ one_more self how }
     {
         match how {
-            Placing::Kept => {
-                self.kept = std::num::wrapping_add_u64(self.kept, 1);
-                self
-            }
-            Placing::Forced => {
-                self.forced = std::num::wrapping_add_u64(self.forced, 1);
-                self
-            }
-            Placing::Edge => {
-                self.edge = std::num::wrapping_add_u64(self.edge, 1);
-                self
-            }
+            Placing::Kept => self.kept = self.kept.wrapping_add(1),
+            Placing::Forced => self.forced = self.forced.wrapping_add(1),
+            Placing::Edge => self.edge = self.edge.wrapping_add(1),
         }
+        self
     }
 }
 
@@ -230,14 +212,14 @@ impl Event {
         ensures { result ≡ new_event start_time end_time fade_in fade_out fade_ease source gain id.0 }
     {
         Event {
-            start_time: start_time,
-            end_time: end_time,
-            fade_in: fade_in,
-            fade_out: fade_out,
-            fade_ease: fade_ease,
+            start_time,
+            end_time,
+            fade_in,
+            fade_out,
+            fade_ease,
             unit: Unit::new(source),
-            gain: gain,
-            id: id,
+            gain,
+            id,
         }
     }
 
@@ -254,19 +236,9 @@ impl Event {
     pub fn rewind(self) -> Event
         ensures { result ≡ rewound self }
     {
-        let unit = self.unit;
-        let unit = unit.reset();
-        let fade_ease = self.fade_ease;
-        let id = self.id;
         Event {
-            start_time: self.start_time,
-            end_time: self.end_time,
-            fade_in: self.fade_in,
-            fade_out: self.fade_out,
-            fade_ease: fade_ease,
-            unit: unit,
-            gain: self.gain,
-            id: id,
+            unit: self.unit.reset(),
+            ..self
         }
     }
 
@@ -274,15 +246,10 @@ impl Event {
     pub fn precedes(self, other: Event) -> bool
         ensures { result ≡ earlier self other }
     {
-        let order = floats::total_cmp(self.start_time, other.start_time);
-        match order {
-            Order::Less => true,
-            Order::Equal => {
-                let i = self.id;
-                let j = other.id;
-                i.0 < j.0
-            }
-            Order::Greater => false,
+        match floats::total_cmp(self.start_time, other.start_time) {
+            Ordering::Less => true,
+            Ordering::Equal => self.id.0 < other.id.0,
+            Ordering::Greater => false,
         }
     }
 }

@@ -1,15 +1,16 @@
 -- `ordered`, by the tests that `total_cmp` makes. Assumes nothing.
-use Rattle.std.proofs.Common.{◌≡◌, ℕ, zero, suc, ◌+◌, ◌*◌, ◌/◌, ◌%◌, ◌^◌, ◌<◌, ◌≤◌, Bool, true, false, cond, not, ◌&&◌, ◌||◌, T, eqb, leb, ◌⊎◌, sym, refl, ap, ◌∙◌, subst, inl, inr, true≢false, arith, leb→le, ltb-false, le-ltb, eq-eqb, eqb-true}
-use mathlib.Core.Bool.{and-true, beq}
+use Rattle.std.proofs.Common.{◌≡◌, ℕ, zero, suc, ◌+◌, ◌*◌, ◌/◌, ◌%◌, ◌^◌, ◌<◌, ◌≤◌, Bool, true, false, cond, not, ◌&&◌, ◌||◌, T, eqb, leb, ◌⊎◌, sym, refl, ap, ◌∙◌, subst, inl, inr, true≢false, nat_cmp, nat_lt, nat_eq, arith, leb→le, ltb-true, ltb-false, le-ltb, eq-eqb, eqb-true}
+use mathlib.Core.Bool.{and-true, beq, false≢true}
+use Rattle.std.specs.Ordering.{bool_cmp}
+use Rattle.std.proofs.lemmas.Bool.{eqb-false}
 use lib.Dec.{nleb→lt}
-use lib.Ieee.{Float, nan, inf, fin, binary64, up, down, below, level, lt, eq, ne, fits, is_nan, odd, of_fields, of_bits, to_bits}
+use lib.Ieee.{Float, nan, inf, fin, binary64, up, down, below, level, lt, eq, fits, is_nan, odd, of_fields, of_bits, to_bits}
 use lib.Ieee.Bits.{is_false, of_bits-to_bits, to_bits-lt}
-use lib.Ieee.Compare.{differs_from_itself}
 use Rattle.floats.specs.Floats.{total_less, negative}
 use Rattle.floats.specs.Ordered.{ordered}
 use Rattle.floats.specs.TotalOrder.{total_less_irreflexive, total_less_asymmetric, total_less_connected, ordered-less, ordered-greater, ordered_equal}
-use Rattle.floats.specs.declared.Order.TheVariants.{Less, Equal, Greater}
-use Rattle.floats.proofs.Patterns.{same_no_nan}
+use Rattle.std.specs.declared.cmp.Ordering.TheVariants.{Less, Equal, Greater}
+use Rattle.floats.proofs.Patterns.{same_no_nan, the_nan}
 
 -- ---- the sign is the top bit
 negative_fields : (s : Bool) (x t : ℕ) → T (not (is_nan (of_fields binary64 s x t))) → negative (of_fields binary64 s x t) ≡ s
@@ -53,12 +54,9 @@ greater x y h = sym (ordered-greater x y (total_less_asymmetric y x (lt-total_le
     lt-total_less h = unfold total_less in ap (λ (t : Bool). t || (eq y x && (negative y && not (negative x))) || (is_nan x && not (is_nan y))) h
 
 -- ---- NaNs
-pub both_nan : (x y : Float) → ne x x ≡ true → ne y y ≡ true → Equal ≡ ordered x y
-both_nan x y h k = sym (ap (λ (v : Float). ordered v y) (is x h) ∙ ap (ordered nan) (is y k) ∙ nans)
+both_nan : (x y : Float) → is_nan x ≡ true → is_nan y ≡ true → Equal ≡ ordered x y
+both_nan x y h k = sym (ap (λ (v : Float). ordered v y) (the_nan x h) ∙ ap (ordered nan) (the_nan y k) ∙ nans)
   where
-    is : (x : Float) → ne x x ≡ true → x ≡ nan
-    is x h = differs_from_itself x (subst T (sym h) tt)
-
     nans : ordered nan nan ≡ Equal
     nans = unfold ordered in refl
 
@@ -68,10 +66,10 @@ nan_last nan n = absurd n
 nan_last (inf s) n = (refl, refl)
 nan_last (fin s m e) n = (refl, refl)
 
-pub nan_greater : (x y : Float) → ne x x ≡ true → ne y y ≡ false → Greater ≡ ordered x y
+nan_greater : (x y : Float) → is_nan x ≡ true → is_nan y ≡ false → Greater ≡ ordered x y
 nan_greater x y h k =
     let r = nan_last y (same_no_nan y k) in
-    sym (ap (λ (v : Float). ordered v y) (differs_from_itself x (subst T (sym h) tt)) ∙ ordered-greater nan y r.1 r.0)
+    sym (ap (λ (v : Float). ordered v y) (the_nan x h) ∙ ordered-greater nan y r.1 r.0)
 
 -- ---- the two are equal values: neither is less, and neither is a NaN
 
@@ -132,10 +130,18 @@ other_nan (fin s m e) (inf true) h p q n = absurd (true≢false q)
 other_nan (fin s m e) (inf false) h p q n = absurd (true≢false p)
 other_nan (fin s m e) (fin t k d) h p q n = absurd (level-not s (m * up e * down d) t (k * up d * down e) h p q)
 
-pub less_nan : (x y : Float) → eq x y ≡ false → lt x y ≡ false → lt y x ≡ false → ne x x ≡ false → Less ≡ ordered x y
-less_nan x y h p q n =
-    let k = same_no_nan x n in
-    sym (ap (λ (v : Float). ordered x v) (other_nan x y h p q k) ∙ ordered-less x nan (nan_last x k).0)
+-- which is the order of "is a NaN"
+pub nan_order : (x y : Float) → eq x y ≡ false → lt x y ≡ false → lt y x ≡ false → bool_cmp (is_nan x) (is_nan y) ≡ ordered x y
+nan_order x y h p q = go (is_nan x) (is_nan y) refl refl
+  where
+    nan_is_nan : is_nan nan ≡ true
+    nan_is_nan = unfold is_nan in refl
+
+    go : (s t : Bool) → is_nan x ≡ s → is_nan y ≡ t → bool_cmp s t ≡ ordered x y
+    go true true u v = both_nan x y u v
+    go true false u v = nan_greater x y u v
+    go false true u v = sym (ap (λ (w : Float). ordered x w) (the_nan y v) ∙ ordered-less x nan (nan_last x (same_no_nan x u)).0)
+    go false false u v = absurd (false≢true (sym v ∙ ap is_nan (other_nan x y h p q (same_no_nan x u)) ∙ nan_is_nan))
 
 -- ---- equal values: the bits
 flat : (p q r u z : Bool) → p ≡ false → r ≡ false → u ≡ false → (p || (q && r) || (u && z)) ≡ false
@@ -189,13 +195,13 @@ module _ (x y : Float) (f : T (fits binary64 x)) (g : T (fits binary64 y)) (same
   second : negative x ≡ false → negative y ≡ true → Greater ≡ ordered x y
   second a b = let r = only-first y x g f k p b a in sym (ordered-greater x y r.0 r.1)
 
-  pub bits_equal : to_bits binary64 x ≡ to_bits binary64 y → Equal ≡ ordered x y
+  bits_equal : to_bits binary64 x ≡ to_bits binary64 y → Equal ≡ ordered x y
   bits_equal h =
       let e : x ≡ y = sym (of_bits-to_bits binary64 x f) ∙ ap (of_bits binary64) h ∙ of_bits-to_bits binary64 y g in
       sym (ap (λ (v : Float). ordered x v) (sym e) ∙ ordered_equal x x (total_less_irreflexive x) (total_less_irreflexive x))
 
   -- of two signs, the sign is the top bit
-  pub bits-less : to_bits binary64 y < to_bits binary64 x → Less ≡ ordered x y
+  bits-less : to_bits binary64 y < to_bits binary64 x → Less ≡ ordered x y
   bits-less h = go (negative x) (negative y) refl refl (sign_bit x f n) (sign_bit y g k)
     where
       go : (a b : Bool) → negative x ≡ a → negative y ≡ b → to_bits binary64 x / 2 ^ 63 ≡ cond a 1 0 → to_bits binary64 y / 2 ^ 63 ≡ cond b 1 0 → Less ≡ ordered x y
@@ -204,7 +210,7 @@ module _ (x y : Float) (f : T (fits binary64 x)) (g : T (fits binary64 y)) (same
       go false true u v i j = absurd (omega arith)
       go false false u v i j = let e = ap (to_bits binary64) (alike false u v) in absurd (omega arith)
 
-  pub bits-greater : to_bits binary64 x < to_bits binary64 y → Greater ≡ ordered x y
+  bits-greater : to_bits binary64 x < to_bits binary64 y → Greater ≡ ordered x y
   bits-greater h = go (negative x) (negative y) refl refl (sign_bit x f n) (sign_bit y g k)
     where
       go : (a b : Bool) → negative x ≡ a → negative y ≡ b → to_bits binary64 x / 2 ^ 63 ≡ cond a 1 0 → to_bits binary64 y / 2 ^ 63 ≡ cond b 1 0 → Greater ≡ ordered x y
@@ -212,3 +218,18 @@ module _ (x y : Float) (f : T (fits binary64 x)) (g : T (fits binary64 y)) (same
       go true false u v i j = absurd (omega arith)
       go false true u v i j = second u v
       go false false u v i j = let e = ap (to_bits binary64) (alike false u v) in absurd (omega arith)
+
+  -- so equal values stand in the order of their bits turned round
+  pub bits-order : nat_cmp (to_bits binary64 y) (to_bits binary64 x) ≡ ordered x y
+  bits-order = go (nat_lt b a) (nat_eq b a) refl refl
+    where
+      a : ℕ
+      a = to_bits binary64 x
+
+      b : ℕ
+      b = to_bits binary64 y
+
+      go : (s t : Bool) → nat_lt b a ≡ s → nat_eq b a ≡ t → cond s Less (cond t Equal Greater) ≡ ordered x y
+      go true t u v = bits-less (ltb-true b a u)
+      go false true u v = bits_equal (sym (eqb-true b a v))
+      go false false u v = bits-greater (omega (arith, ltb-false b a u, eqb-false b a v))

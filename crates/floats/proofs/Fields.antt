@@ -1,11 +1,11 @@
 -- The bits of `narrowed x` from the fields of x's bits, in the three ways that `narrow_bits` takes. Assumes nothing.
-use Rattle.std.proofs.Common.{◌≡◌, ℕ, zero, suc, ◌+◌, ◌-◌, ◌*◌, ◌/◌, ◌%◌, ◌^◌, ◌<◌, ◌≤◌, min, Bool, true, false, cond, not, ◌&&◌, T, eqb, leb, ◌⊎◌, sym, refl, ap, ◌∙◌, subst, inl, inr, le_trans, lt_of_lt_of_le, le_of_suc-le-suc, lt_of_le_of_lt, lt_irrefl, mod-lt, mod-eq_of_lt, eq-or-lt_of_le, one-mul, not-le_of_lt, add-one, arith, le→leb, eqb→eq, leb→le, pow_pos, pow_mono, shr_lt}
-use Prim.Native.Nat.{compare, Ordering}
+use Rattle.std.proofs.Common.{◌≡◌, ℕ, zero, suc, ◌+◌, ◌-◌, ◌*◌, ◌/◌, ◌%◌, ◌^◌, ◌<◌, ◌≤◌, min, Bool, true, false, cond, not, T, eqb, leb, ◌⊎◌, sym, refl, ap, ◌∙◌, subst, inl, inr, le_trans, lt_of_lt_of_le, le_of_suc-le-suc, lt_irrefl, mod-eq_of_lt, eq-or-lt_of_le, one-mul, arith, eqb→eq, leb→le, pow_pos, pow_mono, shr_lt}
+use Prim.Native.Nat.{compare}
 use native.Mathlib.Nat.{div-eq_of_lt}
-use lib.Dec.{is_le, compare_is_eq, nleb→lt, eqb_refl, not_T}
+use lib.Dec.{nleb→lt, not_T}
 use lib.Pow.{pow-lt, field}
-use lib.Ieee.{Float, nan, inf, fin, binary32, binary64, up, down, nearest, odd, units, round, fits, is_nan, of_fields, of_bits, to_bits, nan_bits}
-use lib.Ieee.Fits.{down_pos, nearest-le, eq→eqb}
+use lib.Ieee.{Float, nan, inf, fin, binary32, binary64, up, down, nearest, odd, round, is_nan, of_fields, of_bits, to_bits, nan_bits}
+use lib.Ieee.Fits.{down_pos, nearest-le}
 use lib.Ieee.Bits.{cond_no, nan_bits_is}
 use lib.Ieee.Exact.{HasValue, odd_sign}
 use lib.Ieee.Nearest.{closest, nearest-ge}

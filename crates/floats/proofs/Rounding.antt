@@ -1,12 +1,8 @@
 -- M * 2 ^ x of the smallest values of binary64, rounded to binary32: how many digits are dropped, in the ways that `narrow_bits` takes. Assumes nothing.
-use Rattle.std.proofs.Common.{◌≡◌, ℕ, zero, suc, ◌+◌, ◌-◌, ◌*◌, ◌/◌, ◌%◌, ◌^◌, ◌<◌, ◌≤◌, min, Bool, true, false, cond, not, T, ltb, ◌⊎◌, sym, refl, ap, ◌∙◌, subst, inl, inr, le_trans, le_of_eq, le_refl, lt_of_lt_of_le, le_of_suc-le-suc, lt_of_le_of_lt, add_assoc, lt_irrefl, mul-le-mul_right, mul_assoc, div-lt_iff_lt-mul, eq-zero-or-pos, le_antisymm, eq-or-lt_of_le, mul-pos, lt_of_not-le, le-div_iff_mul-le, mul-one, not-le_of_lt, le_of_mul-le-mul_right, mul-div_cancel, arith, ltb→lt, nltb→le, pow_pos, pow_mono, pow-add, shl_lt}
-use Prim.Native.Nat.{compare, Ordering}
-use native.Mathlib.Nat.{pow-succ'}
-use lib.Pow.{pow-lt}
-use lib.Ieee.{Float, nan, inf, fin, binary32, up, down, size, odd, units, round, to_bits}
-use lib.Ieee.Digits.{size-lt, size-le}
-use lib.Ieee.Fits.{down_pos, round_is}
-use lib.Ieee.Exact.{HasValue, odd_sign}
+use Rattle.std.proofs.Common.{◌≡◌, ℕ, ◌+◌, ◌-◌, ◌*◌, ◌/◌, ◌^◌, ◌<◌, ◌≤◌, Bool, sym, ap, ◌∙◌, le_trans, le_of_eq, lt_of_lt_of_le, lt_of_le_of_lt, mul-le-mul_right, mul_assoc, div-lt_iff_lt-mul, mul-pos, le-div_iff_mul-le, arith, pow_pos, pow_mono, pow-add, shl_lt}
+use lib.Ieee.{binary32, size, units, round}
+use lib.Ieee.Digits.{size-le}
+use lib.Ieee.Fits.{round_is}
 use lib.Ieee.Nearest.{closest, closest_same}
 use Rattle.floats.specs.Pack.{size_gt}
 

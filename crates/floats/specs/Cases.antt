@@ -4,8 +4,8 @@ use Rattle.std.specs.Float.{nan, inf, fin, binary32}
 use Rattle.std.specs.Float.Ieee.{round, of_bits, to_bits, lt, eq, is_nan}
 use Rattle.floats.specs.Arithmetic.{zeroᶠ, oneᶠ, halfᶠ}
 use Rattle.floats.specs.Constants.{f64}
-use Rattle.floats.specs.declared.Order.TheVariants.{Less, Equal, Greater}
-use Rattle.floats.specs.declared.Order.{Order}
+use Rattle.std.specs.declared.cmp.Ordering.TheVariants.{Less, Equal, Greater}
+use Rattle.std.specs.declared.cmp.Ordering.{Ordering}
 use Rattle.floats.specs.Floats.{narrowed, index, negative, total_less, sooner}
 use Rattle.floats.specs.Ordered.{ordered}
 
@@ -44,7 +44,7 @@ index-large = refl
 abbrev ascending : List Float
 ascending = inf true ∷ fin true 1 (pos 0) ∷ fin true 1 (negsuc 0) ∷ fin true 0 (pos 0) ∷ fin false 0 (pos 0) ∷ fin false 1 (negsuc 0) ∷ fin false 1 (pos 0) ∷ inf false ∷ nan ∷ []
 
-abbrev neighbours : (Float → Float → Order) → List Float → List Order
+abbrev neighbours : (Float → Float → Ordering) → List Float → List Ordering
 neighbours f [] = []
 neighbours f (x ∷ []) = []
 neighbours f (x ∷ (y ∷ l)) = f x y ∷ neighbours f (y ∷ l)

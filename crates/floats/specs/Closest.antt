@@ -1,6 +1,6 @@
 -- `closest a u`, the whole number that rounding takes for a / u, is a nearest one, and where two are equally near the even one. Assumes nothing.
-use Rattle.std.specs.Prelude.{◌≡◌, ℕ, suc, ◌+◌, ◌-◌, ◌*◌, ◌/◌, ◌%◌, ◌<◌, ◌≤◌, T, eqb, leb, ◌⊎◌, refl}
-use Rattle.std.proofs.Common.{sym, ap, ◌∙◌, subst, inl, inr, le_refl, le_trans, le_of_lt, lt_irrefl, lt_of_lt_of_le, lt_of_le_of_lt, not-le_of_lt, mod-lt, mul-le-mul_right, add-mul, one-mul, div-add-mod', arith, leb→le, eqb→eq, le→leb}
+use Rattle.std.specs.Prelude.{◌≡◌, ℕ, suc, ◌+◌, ◌-◌, ◌*◌, ◌/◌, ◌%◌, ◌<◌, ◌≤◌, T, ◌⊎◌, refl}
+use Rattle.std.proofs.Common.{sym, ap, ◌∙◌, subst, inl, inr, le_refl, le_trans, le_of_lt, lt_irrefl, lt_of_lt_of_le, not-le_of_lt, mod-lt, mul-le-mul_right, add-mul, one-mul, div-add-mod', arith, leb→le, eqb→eq, le→leb}
 use Prim.Native.Nat.{compare, Ordering}
 use Rattle.std.proofs.Math.Decide.{dec_lt}
 use Rattle.std.proofs.Math.Dec.{is_le, compare_is_eq}

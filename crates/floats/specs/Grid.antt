@@ -1,14 +1,14 @@
 -- Rounding on the grid of a format of p digits, in units of its smallest value: of a / c the format keeps `kept` * 2 ^ `drop` units (`lib.Ieee.Order`), which is nearest to a / c among all m * 2 ^ j with
 -- m below 2 ^ p, and where another of these is as near `kept` is even. Assumes nothing.
-use Rattle.std.specs.Prelude.{◌≡◌, ℕ, zero, suc, ◌+◌, ◌-◌, ◌*◌, ◌/◌, ◌%◌, ◌^◌, ◌<◌, ◌≤◌, ◌⊎◌, refl}
-use Rattle.std.proofs.Common.{sym, ap, ◌∙◌, subst, inl, inr, le_trans, le_of_eq, lt_irrefl, lt_of_lt_of_le, lt_of_le_of_lt, mul_assoc, mul_comm, mul_right_comm, mul-pos, mul-le-mul_right, mul-lt-mul_of_pos_right, le-div_iff_mul-le, arith, pow-add, pow_pos, pow_mono, shl_lt}
+use Rattle.std.specs.Prelude.{◌≡◌, ℕ, suc, ◌+◌, ◌-◌, ◌*◌, ◌/◌, ◌%◌, ◌^◌, ◌<◌, ◌≤◌, ◌⊎◌}
+use Rattle.std.proofs.Common.{sym, ap, ◌∙◌, subst, inl, inr, le_trans, le_of_eq, lt_irrefl, lt_of_lt_of_le, lt_of_le_of_lt, mul_assoc, mul_comm, mul-pos, mul-lt-mul_of_pos_right, le-div_iff_mul-le, arith, pow-add, pow_pos, pow_mono, shl_lt}
 use Prim.Native.Nat.{compare}
 use Rattle.std.proofs.Math.Nat.{div-div-eq-div-mul}
 use Rattle.std.proofs.Math.Decide.{dec_lt}
 use lib.Ieee.{size}
 use Rattle.std.specs.Float.Ieee.Digits.{size_reaches}
 use Rattle.std.specs.Float.Ieee.Fits.{kept-lt, nearest-le}
-use Rattle.std.specs.Float.Ieee.Nearest.{closest, nearest-ge}
+use Rattle.std.specs.Float.Ieee.Nearest.{nearest-ge}
 use Rattle.std.specs.Float.Ieee.Order.{drop, kept}
 use Rattle.floats.specs.Closest.{gap, Closest, closest_is}
 

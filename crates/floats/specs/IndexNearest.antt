@@ -1,6 +1,6 @@
 -- The sample index n of a value x that is not negative, below the cut at the top: n - 1/2 ≤ x < n + 1/2, so n is nearest and a half goes up. Assumes nothing.
-use Rattle.std.specs.Prelude.{◌≡◌, ℕ, suc, ◌+◌, ◌-◌, ◌*◌, ◌/◌, ◌^◌, ◌<◌, ◌≤◌, min, false, ℤ}
-use Rattle.std.proofs.Common.{subst, mul-pos, div-mul-le_self, div-lt_iff_lt-mul, le_refl, arith}
+use Rattle.std.specs.Prelude.{◌≡◌, ℕ, ◌+◌, ◌-◌, ◌*◌, ◌/◌, ◌^◌, ◌<◌, ◌≤◌, min, false, ℤ}
+use Rattle.std.proofs.Common.{subst, mul-pos, div-mul-le_self, div-lt_iff_lt-mul, arith}
 use Rattle.std.specs.Float.{fin}
 use Rattle.std.specs.Float.Ieee.{up, down}
 use Rattle.std.specs.Float.Ieee.Fits.{down_pos}

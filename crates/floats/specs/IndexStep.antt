@@ -1,12 +1,11 @@
 -- The index step of document 02's Paper 12: its contract, when it is free, and values at its edges.
-use Rattle.std.specs.Prelude.{◌≡◌, ℕ, ◌+◌, ◌-◌, ◌*◌, ◌/◌, ◌^◌, min, Bool, true, false, cond, [], ◌∷◌, map, replicate, ℤ, pos, ◌==◌, nat_le, nat_lt, refl, Float}
+use Rattle.std.specs.Prelude.{◌≡◌, ℕ, ◌-◌, ◌^◌, Bool, true, false, cond, [], ◌∷◌, map, replicate, ℤ, pos, ◌==◌, nat_le, nat_lt, refl, Float}
 use Rattle.std.proofs.Common.{sym, ◌∙◌, arith, ltb-true, ltb-false, leb-true, le-leb, eq-eqb, ne_eqb}
 use Rattle.std.proofs.lemmas.Bool.{lt-leb}
 use Rattle.std.specs.Float.{nan, inf, fin}
-use Rattle.std.specs.Float.Ieee.{up, down, neg, of_bits}
+use Rattle.std.specs.Float.Ieee.{neg, of_bits}
 use Rattle.floats.specs.Arithmetic.{zeroᶠ, halfᶠ}
 use Rattle.floats.specs.Constants.{f64}
-use Rattle.floats.specs.declared.Clamp.{Clamp}
 use Rattle.floats.specs.declared.Clamp.TheVariants.{Free, Raised, Cut}
 use Rattle.floats.specs.declared.SampleIndex.{SampleIndex}
 use Rattle.floats.specs.Floats.{index, nearest_whole, clamp_of, is_free}

@@ -1,9 +1,9 @@
 -- Narrowing is what `specs.Nearest` says. Values are taken in units of the smallest f32, 2 ^ -149, where `specs.Grid` has the rest. Assumes nothing.
-use Rattle.std.specs.Prelude.{◌≡◌, ℕ, zero, suc, ◌+◌, ◌-◌, ◌*◌, ◌/◌, ◌%◌, ◌^◌, ◌<◌, ◌≤◌, min, Bool, true, false, cond, not, ◌&&◌, ◌||◌, T, ◌⊎◌, ℤ, pos, negsuc, ◌≢◌, nat_lt, to_bits, Float}
+use Rattle.std.specs.Prelude.{◌≡◌, ℕ, zero, suc, ◌+◌, ◌-◌, ◌*◌, ◌%◌, ◌^◌, ◌<◌, ◌≤◌, min, Bool, true, false, cond, T, ◌⊎◌, ℤ, ◌≢◌, nat_lt, to_bits, Float}
 use Rattle.std.proofs.Math.Path.{refl, subst}
-use Rattle.std.proofs.Common.{sym, ap, ◌∙◌, inl, inr, true≢false, le_trans, le_of_eq, lt_irrefl, lt_of_lt_of_le, lt_of_le_of_lt, lt_of_not-le, not-le_of_lt, zero-mul, mul-one, mul_comm, mul_assoc, mul_right_comm, mul-pos, add-mul, mul-le-mul_right, mul-lt-mul_of_pos_right, le_of_mul-le-mul_right, arith, ltb→lt, nltb→le, pow_pos}
+use Rattle.std.proofs.Common.{sym, ap, ◌∙◌, inl, inr, true≢false, le_trans, le_of_eq, lt_irrefl, lt_of_lt_of_le, lt_of_not-le, zero-mul, mul-one, mul_comm, mul_assoc, mul_right_comm, mul-pos, add-mul, mul-le-mul_right, mul-lt-mul_of_pos_right, le_of_mul-le-mul_right, arith, pow_pos}
 use Rattle.std.specs.Bool.{beq}
-use Rattle.std.specs.Float.Ieee.{nan, binary32, prec, low, up, down, odd, units, round, fits, lt, le, eq}
+use Rattle.std.specs.Float.Ieee.{nan, binary32, up, down, odd, units, round, fits, lt, le, eq}
 use Rattle.std.specs.Float.{inf, fin}
 use Rattle.std.specs.Float.Ieee.Fits.{down_pos, round_is, round-fits}
 use Rattle.std.specs.Float.Ieee.Exact.{HasValue, odd_sign, units_val}

@@ -1,17 +1,14 @@
 -- The bits of an f32 made of q * 2 ^ k of its smallest units, q having at most 24 digits or being 2 ^ 24: they are k * 2 ^ 23 + q under the sign. The carry into the exponent's field comes out right by
 -- itself, and an infinity's bits stand where that is no less. Assumes nothing.
-use Rattle.std.specs.Prelude.{◌≡◌, ℕ, zero, suc, ◌+◌, ◌-◌, ◌*◌, ◌/◌, ◌%◌, ◌^◌, ◌<◌, ◌≤◌, min, Bool, true, false, cond, not, T, ◌⊎◌, nat_lt, refl, Float}
-use Rattle.std.proofs.Common.{sym, ◌∙◌, subst, inl, inr, le_antisymm, le_trans, le_of_eq, lt_of_lt_of_le, lt_of_le_of_lt, lt_of_not-le, not-le_of_lt, lt_irrefl, le_refl, le_of_suc-le-suc, eq-zero-or-pos, eq-or-lt_of_le, mul_assoc, mul-div_cancel, mul-le-mul_right, le_of_mul-le-mul_right, mul-one, mul-pos, add_assoc, le-div_iff_mul-le, div-lt_iff_lt-mul, arith, ltb→lt, nltb→le, pow-add, pow_pos, pow_mono, shl_lt}
+use Rattle.std.specs.Prelude.{◌≡◌, ℕ, suc, ◌+◌, ◌-◌, ◌*◌, ◌/◌, ◌^◌, ◌<◌, ◌≤◌, min, Bool, true, false, cond, not, T, nat_lt}
+use Rattle.std.proofs.Common.{sym, ◌∙◌, subst, inl, inr, le_trans, le_of_eq, lt_of_lt_of_le, lt_of_le_of_lt, lt_of_not-le, not-le_of_lt, le_refl, le_of_suc-le-suc, eq-zero-or-pos, eq-or-lt_of_le, mul_assoc, mul-div_cancel, mul-le-mul_right, le_of_mul-le-mul_right, add_assoc, arith, ltb→lt, nltb→le, pow-add, pow_pos, pow_mono, shl_lt}
 use Rattle.std.proofs.Math.Path.{ap}
-use Prim.Native.Nat.{compare, Ordering}
 use Rattle.std.proofs.Math.Nat.{pow-succ'}
 use Rattle.std.proofs.Math.Pow.{pow-lt}
-use Rattle.std.specs.Float.{nan, inf, fin, binary32}
-use Rattle.std.specs.Float.Ieee.{up, down, size, odd, units, round, to_bits}
+use Rattle.std.specs.Float.{inf, binary32}
+use Rattle.std.specs.Float.Ieee.{size, odd, units, to_bits}
 use Rattle.std.specs.Float.Ieee.Digits.{size-lt, size-le}
-use Rattle.std.specs.Float.Ieee.Fits.{down_pos, round_is}
-use Rattle.std.specs.Float.Ieee.Exact.{HasValue, odd_sign}
-use Rattle.std.specs.Float.Ieee.Nearest.{closest, closest_same}
+use Rattle.std.specs.Float.Ieee.Exact.{odd_sign}
 use Rattle.floats.specs.Values.{bits_at, value_bits}
 
 pub size_gt : (n j : ℕ) → 2 ^ j ≤ n → j < size n

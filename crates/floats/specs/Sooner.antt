@@ -1,17 +1,16 @@
 -- The order by start, then by the lower number (`sooner`): a strict order on all pairs, total where the numbers differ, and its "not after" a total preorder.
 use Rattle.std.specs.Prelude.{◌≡◌, ℕ, ◌<◌, ◌≤◌, Bool, true, false, cond, not, ◌&&◌, ◌||◌, T, ◌≢◌, ◌⊎◌, nat_lt, refl, Float}
-use Rattle.std.proofs.Common.{sym, ap, ◌∙◌, subst, inl, inr, true≢false, le_trans, lt_irrefl, arith, ltb→lt, lt→ltb, nltb→le}
+use Rattle.std.proofs.Common.{sym, ap, ◌∙◌, inl, inr, true≢false, le_trans, arith, ltb→lt, lt→ltb, nltb→le}
 use Rattle.std.proofs.lemmas.Bool.{false≢true}
-use Rattle.std.proofs.Math.Arith.{le→nltb}
-use Rattle.std.specs.Float.Ieee.Bits.{is_true, is_false}
+use Rattle.std.specs.Float.Ieee.Bits.{is_true}
 use Rattle.floats.specs.Floats.{total_less, sooner}
 use Rattle.floats.specs.Ordered.{ordered}
-use Rattle.floats.specs.TotalOrder.{total_less_irreflexive, total_less_transitive, total_less_asymmetric, not-total_less_transitive}
-use Rattle.floats.specs.declared.Order.{Order}
-use Rattle.floats.specs.declared.Order.TheVariants.{Less, Equal, Greater}
+use Rattle.floats.specs.TotalOrder.{total_less_asymmetric, not-total_less_transitive}
+use Rattle.std.specs.declared.cmp.Ordering.{Ordering}
+use Rattle.std.specs.declared.cmp.Ordering.TheVariants.{Less, Equal, Greater}
 
 -- the answer of `total_cmp`, and at Equal the numbers
-abbrev pub tied : Order → Bool → Bool
+abbrev pub tied : Ordering → Bool → Bool
 tied Less b = true
 tied Equal b = b
 tied Greater b = false

@@ -1,20 +1,18 @@
 -- `total_less` is a strict order on all floats, and "not after" a total preorder: no `fits` is asked for. On the values that a format holds it is total: of two that differ as data one is total_less the other.
 -- Any few values have whole numbers, their `key`s, and x is less than y where x's key is less. Assumes nothing.
-use Rattle.std.specs.Prelude.{◌≡◌, ℕ, zero, suc, ◌+◌, ◌-◌, ◌*◌, ◌/◌, ◌%◌, ◌^◌, ◌<◌, ◌≤◌, Bool, true, false, cond, not, ◌&&◌, ◌||◌, T, ltb, ℤ, pos, negsuc, ◌==◌, nat_lt, refl, Float}
-use Rattle.std.proofs.Common.{sym, ap, ◌∙◌, subst, true≢false, suc-le-suc, le_trans, mul-div_cancel, lt_irrefl, lt_of_lt_of_le, lt_of_le_of_lt, le_of_lt, le_of_eq, le_antisymm, mul_assoc, mul_comm, mul_right_comm, mul-pos, mul-lt-mul_of_pos_right, lt_of_mul-lt-mul_right, arith, ltb→lt, lt→ltb, nltb→le, T_not, pow_pos, pow_mono}
-use Rattle.std.proofs.lemmas.Bool.{false≢true}
-use Rattle.std.proofs.Math.Dec.{eqb_refl, not_T}
+use Rattle.std.specs.Prelude.{◌≡◌, ℕ, zero, suc, ◌+◌, ◌-◌, ◌*◌, ◌/◌, ◌^◌, ◌<◌, ◌≤◌, Bool, true, false, cond, not, ◌&&◌, ◌||◌, T, ltb, ℤ, pos, negsuc, ◌==◌, nat_lt, refl, Float}
+use Rattle.std.proofs.Common.{sym, ap, ◌∙◌, subst, true≢false, suc-le-suc, le_trans, mul-div_cancel, lt_of_lt_of_le, lt_of_le_of_lt, le_of_lt, le_of_eq, le_antisymm, mul_assoc, mul_comm, mul_right_comm, mul-pos, mul-lt-mul_of_pos_right, lt_of_mul-lt-mul_right, arith, ltb→lt, lt→ltb, nltb→le, pow_pos, pow_mono}
+use Rattle.std.proofs.Math.Dec.{not_T}
 use Rattle.std.proofs.Math.Arith.{le→nltb}
 use Rattle.std.specs.Float.{nan, inf, fin, Format}
-use Rattle.std.specs.Float.Ieee.{up, down, lt, eq, fits, is_nan}
+use Rattle.std.specs.Float.Ieee.{up, down, fits}
 use Rattle.std.specs.Float.Ieee.Fits.{down_pos}
 use Rattle.std.specs.Float.Ieee.Bits.{is_true, is_false}
-use Rattle.floats.specs.Floats.{total_less, negative}
+use Rattle.floats.specs.Floats.{total_less}
 use Rattle.floats.specs.Ordered.{ordered}
 use Rattle.floats.specs.Values.{value_unique}
 use Rattle.floats.specs.Scaled.{scaled}
-use Rattle.floats.specs.declared.Order.{Order}
-use Rattle.floats.specs.declared.Order.TheVariants.{Less, Equal, Greater}
+use Rattle.std.specs.declared.cmp.Ordering.TheVariants.{Less, Equal, Greater}
 
 -- ---- The size of a finite value in units of 2 ^ -l, for an l that its exponent allows
 abbrev units_of : ℕ → ℕ → ℤ → ℕ

@@ -2,36 +2,34 @@
 // two figures: what the rises of N pushes add up to at most, and what those of the tape's pushes do. Anything but such an N is refused: `23` is then all that is written, to standard error.
 #![tactic(auto)]
 
-use rises::{Laid, Total};
+use rises::Refusal;
 use std::io;
 use std::rt::Env;
 
-// N, or 0 where the words are not one that writes it.
-fn argument<E: Env>(env: &E) -> usize {
+// N, where the words are one that writes it.
+fn argument<E: Env>(env: &E) -> Result<usize, Refusal> {
     if streams::argument_count(env) != 2 {
-        return 0;
+        return Err(Refusal::Size);
     }
     let mut word = [0u8; 8];
     let n = streams::argument(env, 1, &mut word);
-    if n <= 8 {
-        rises::count_of(&word[..n])
-    } else {
-        0
-    }
+    rises::count_of(&word[..n]).ok_or(Refusal::Size)
 }
 
-// Writes the first `n` bytes.
-fn write_front<R: Print>(rt: &R, buf: &[u8], n: usize) -> io::Result<()> {
-    if buf.len() < n {
-        return Ok(());
-    }
-    rt.write_all(&buf[..n])
+// N, and the length of its tape, which stands at the buffer's front.
+fn lay<E: Env>(env: &E, buf: &mut [u8]) -> Result<(usize, usize), Refusal> {
+    let n = argument(env)?;
+    let length = rises::lay(n, buf)?;
+    Ok((n, length))
 }
 
-fn write_total<E: Eprint>(rt: &E, total: Total) -> io::Result<()> {
+fn write_total<E: Eprint>(rt: &E, total: Result<usize, Refusal>) -> io::Result<()> {
     match total {
-        Total::Levels(levels) => eprint!(rt; "{levels}"),
-        Total::Refused(refusal) => eprint!(rt; "{refusal}"),
+        Ok(levels) => eprint!(rt; "{levels}"),
+        Err(refusal) => {
+            let number = refusal.number();
+            eprint!(rt; "{number}")
+        }
     }
 }
 
@@ -43,14 +41,15 @@ fn write_figures<E: Eprint>(rt: &E, n: usize) -> io::Result<()> {
 }
 
 fn main(rt: HostRuntime) -> io::Result<()> {
-    let n = argument(&rt);
     let mut buf = [0u8; 65536];
-    let laid = rises::lay(n, &mut buf);
-    match laid {
-        Laid::Bytes(len) => {
-            write_front(&rt, &buf, len)?;
+    match lay(&rt, &mut buf) {
+        Ok((n, length)) => {
+            rt.write_all(&buf[..length.min(buf.len())])?;
             write_figures(&rt, n)
         }
-        Laid::Refused(refusal) => eprint!(rt; "{refusal}\n"),
+        Err(refusal) => {
+            let number = refusal.number();
+            eprint!(rt; "{number}\n")
+        }
     }
 }

@@ -1,5 +1,5 @@
 -- Everything waits again: the finished and the sounding, lists that are cleared, and sources that go back to their beginning.
-use Rattle.std.proofs.Common.{◌≡◌, ℕ, ◌+◌, ◌-◌, ◌<◌, ◌≤◌, min, get_or, set, sym, refl, ap, ◌∙◌, subst, arith, le-ltb, lt-ltb}
+use Rattle.std.proofs.Common.{◌≡◌, ℕ, ◌+◌, ◌-◌, ◌<◌, ◌≤◌, min, get_or, sym, ap, ◌∙◌, subst, arith, le-ltb, lt-ltb}
 use Rattle.event.specs.declared.Event.{Event}
 use Rattle.event.specs.declared.Unit.{Unit}
 use Rattle.event.specs.Events.{rewound}

@@ -3,9 +3,8 @@ use Rattle.std.proofs.Common.{◌≡◌, ℕ, ◌-◌, ◌<◌, ◌≤◌, true,
 use lib.Ieee.{Float, lt, nan}
 use Rattle.event.specs.declared.Event.{Event}
 use Rattle.event.specs.Blank.{blank}
-use Rattle.lists.specs.declared.EditMap.{EditMap}
-use Rattle.lists.specs.declared.Found.{Found}
-use Rattle.lists.specs.declared.Found.TheVariants.{At, Nothing}
+use Rattle.std.specs.declared.option.Option.{Option}
+use Rattle.std.specs.declared.option.Option.TheVariants.{Some, None}
 use Rattle.lists.specs.Edits.{placed, found_at, removed_at, found_edit, removed}
 use Rattle.sequencer.specs.declared.Sequencer.{Sequencer}
 use Rattle.floats.specs.Arithmetic.{◌-ᵈ◌, ◌×ᵈ◌, halfᶠ}
@@ -20,13 +19,13 @@ use Rattle.memory.specs.Edits.{edited_if}
 -- ---- the heap's first, with its edit
 
 module _ (s : Sequencer) (f : Event) where
-  abbrev started : Found → Sequencer
+  abbrev started : Option ℕ → Sequencer
   started p = pushed_active (popped_ready (with_edits s (removed s.edit_map f.id))) (edited_if (found_at s.edit_map p) f)
 
-  starts_by : (p : Found) → placed s.edit_map f.id ≡ p → started p ≡ activated_by s f (found_at s.edit_map p)
+  starts_by : (p : Option ℕ) → placed s.edit_map f.id ≡ p → started p ≡ activated_by s f (found_at s.edit_map p)
   unfolding activated_by removed
-  starts_by (At j) h = refl
-  starts_by Nothing h = ap (λ (q : Found). pushed_active (popped_ready (with_edits s (removed_at s.edit_map q))) f) h
+  starts_by (Some j) h = refl
+  starts_by None h = ap (λ (q : Option ℕ). pushed_active (popped_ready (with_edits s (removed_at s.edit_map q))) f) h
 
   pub begun : (t x y : Sequencer) (e : Event) → t ≡ with_edits s (removed s.edit_map f.id) → e ≡ edited_if (found_edit s.edit_map f.id) f → x ≡ popped_ready t → y ≡ pushed_active x e → y ≡ activated s f
   unfolding activated found_edit

@@ -1,5 +1,5 @@
 -- An edit stored, taken out, and the gap that closes.
-use Rattle.std.proofs.Common.{◌≡◌, ℕ, ◌+◌, ◌-◌, ◌*◌, ◌<◌, ◌≤◌, Bool, true, false, cond, leb, List, get_or, set, sym, refl, ap, ◌∙◌, subst, ap₂, arith, le-ltb, lt-ltb, le-leb}
+use Rattle.std.proofs.Common.{◌≡◌, ℕ, ◌+◌, ◌-◌, ◌*◌, ◌<◌, ◌≤◌, true, false, leb, List, get_or, set, sym, refl, ap, ◌∙◌, subst, arith, le-ltb, lt-ltb, le-leb}
 use borrow.Author.Tests.{lt-leb}
 use lib.Ieee.{Float, nan}
 use Rattle.event.specs.declared.Event.{Event}
@@ -7,9 +7,8 @@ use Rattle.event.specs.declared.Edit.{Edit}
 use Rattle.event.specs.declared.EventId.{EventId}
 use Rattle.event.specs.declared.StoredEdit.{StoredEdit}
 use Rattle.event.specs.Events.{edited_by}
-use Rattle.lists.specs.declared.Found.{Found}
-use Rattle.lists.specs.declared.Found.TheVariants.{At, Nothing}
-use Rattle.lists.specs.declared.FoundEdit.{FoundEdit}
+use Rattle.std.specs.declared.option.Option.{Option}
+use Rattle.std.specs.declared.option.Option.TheVariants.{Some, None}
 use Rattle.lists.specs.Search.{shift}
 use Rattle.lists.specs.Edits.{placed, no_edit, found_at, stored_at, removed_at, found_edit, removed}
 use Rattle.lists.specs.Edits as EditMaps
@@ -17,9 +16,9 @@ use Rattle.lists.specs.Rounds.{placed-inside, Shifting, shifting_on, shifted}
 use Rattle.refusals.specs.Refusals.{roomless}
 use Rattle.sequencer.specs.declared.Sequencer.{Sequencer}
 use Rattle.sequencer.specs.Parts.{with_edits}
-use Rattle.memory.specs.Memory.{Cells, cells_of, engine_of}
+use Rattle.memory.specs.Memory.{Cells, engine_of}
 use Rattle.memory.specs.Laws.{Sized, with_number}
-use Rattle.memory.specs.Edits.{id_of, edit_of, edits_of, edited_if, with_edit, stored-at, edits_count, edit_sized, edit-is, edits_are}
+use Rattle.memory.specs.Edits.{edit_of, edits_of, edited_if, with_edit, stored-at, edits_count, edit_sized, edit-is, edits_are}
 
 -- ---- the gap closes
 
@@ -48,7 +47,7 @@ module _ (s : Sequencer) (c : Cells) (z : Sized c) (m j : ℕ) (r : List StoredE
             }),
       )
 
-  pub closed : m ≤ j → (at : ℕ) → r ≡ shift no_edit (m - at) s.edit_map.items at → m ≡ s.edit_map.len - 1 → engine_of (with_number c 1283 m) ≡ with_edits s (removed_at s.edit_map (At at))
+  pub closed : m ≤ j → (at : ℕ) → r ≡ shift no_edit (m - at) s.edit_map.items at → m ≡ s.edit_map.len - 1 → engine_of (with_number c 1283 m) ≡ with_edits s (removed_at s.edit_map (Some at))
   closed l at e q =
       edits_are c m z ∙ ap (λ (x : Sequencer). with_edits x (edits_of (engine_of c).edit_map.items m)) w.same
       ∙ ap (λ (xs : List StoredEdit). with_edits s (edits_of xs m)) (shifted no_edit m (engine_of c).edit_map.items j r l w.shifting ∙ e)
@@ -56,22 +55,22 @@ module _ (s : Sequencer) (c : Cells) (z : Sized c) (m j : ℕ) (r : List StoredE
 
 -- ---- by what the search found
 
-module _ (c : Cells) (k : EventId) (f : Found) (q : f ≡ placed (engine_of c).edit_map k) where
-  pub found-place : (j : ℕ) → f ≡ At j → (j < (engine_of c).edit_map.len) × ((engine_of c).edit_map.len ≤ 256)
+module _ (c : Cells) (k : EventId) (f : Option ℕ) (q : f ≡ placed (engine_of c).edit_map k) where
+  pub found-place : (j : ℕ) → f ≡ Some j → (j < (engine_of c).edit_map.len) × ((engine_of c).edit_map.len ≤ 256)
   found-place j h = placed-inside (engine_of c).edit_map k j (sym q ∙ h)
 
   module _ (z : Sized c) (a b : Float) where
     abbrev told : Sequencer
     told = with_edits (engine_of c) (EditMaps.stored (engine_of c).edit_map k (record { end_time = a; fade_out = b }))
 
-    by : (g : Found) → f ≡ g → with_edits (engine_of c) (stored_at (engine_of c).edit_map (edit_of k.0 a b) g) ≡ told
+    by : (g : Option ℕ) → f ≡ g → with_edits (engine_of c) (stored_at (engine_of c).edit_map (edit_of k.0 a b) g) ≡ told
     unfolding EditMaps.stored
-    by g h = ap (λ (x : Found). with_edits (engine_of c) (stored_at (engine_of c).edit_map (edit_of k.0 a b) x)) (sym h ∙ q)
+    by g h = ap (λ (x : Option ℕ). with_edits (engine_of c) (stored_at (engine_of c).edit_map (edit_of k.0 a b) x)) (sym h ∙ q)
 
-    pub stores_again : (j : ℕ) → f ≡ At j → engine_of (with_edit c j k.0 a b) ≡ told
-    stores_again j h = edit-is c z j (omega (arith, (found-place j h).0, (found-place j h).1)) k.0 a b ∙ by (At j) h
+    pub stores_again : (j : ℕ) → f ≡ Some j → engine_of (with_edit c j k.0 a b) ≡ told
+    stores_again j h = edit-is c z j (omega (arith, (found-place j h).0, (found-place j h).1)) k.0 a b ∙ by (Some j) h
 
-    module _ (h : f ≡ Nothing) (n : ℕ) (e : n ≡ get_or c.numbers 1283 0) where
+    module _ (h : f ≡ None) (n : ℕ) (e : n ≡ get_or c.numbers 1283 0) where
       count : n ≡ (engine_of c).edit_map.len
       count = e ∙ edits_count c
 
@@ -81,50 +80,50 @@ module _ (c : Cells) (k : EventId) (f : Found) (q : f ≡ placed (engine_of c).e
           edits_are d (n + 1) (subst Sized (sym p) (edit_sized c n k.0 a b z))
           ∙ ap (λ (x : Sequencer). with_edits x (edits_of x.edit_map.items (n + 1))) (ap engine_of p ∙ edit-is c z n l k.0 a b)
           ∙ ap (λ (m : ℕ). with_edits s (edits_of (set s.edit_map.items m (edit_of k.0 a b)) (m + 1))) count
-          ∙ room ∙ by Nothing h
+          ∙ room ∙ by None h
         where
           room : with_edits (engine_of c) (edits_of (set (engine_of c).edit_map.items (engine_of c).edit_map.len (edit_of k.0 a b)) ((engine_of c).edit_map.len + 1))
-              ≡ with_edits (engine_of c) (stored_at (engine_of c).edit_map (edit_of k.0 a b) Nothing)
+              ≡ with_edits (engine_of c) (stored_at (engine_of c).edit_map (edit_of k.0 a b) None)
           room = rw (lt-ltb (engine_of c).edit_map.len 256 (omega (arith, l, count)))
 
       pub stores_none : 256 ≤ n → engine_of c ≡ told
-      stores_none l = none ∙ by Nothing h
+      stores_none l = none ∙ by None h
         where
-          none : engine_of c ≡ with_edits (engine_of c) (stored_at (engine_of c).edit_map (edit_of k.0 a b) Nothing)
+          none : engine_of c ≡ with_edits (engine_of c) (stored_at (engine_of c).edit_map (edit_of k.0 a b) None)
           none = rw (le-ltb (engine_of c).edit_map.len 256 (omega (arith, l, count)))
 
   -- whether there is no room
   module _ (n : ℕ) where
-    room_by : (g : Found) → f ≡ g → roomless Nothing false (found_at (engine_of c).edit_map g) n ≡ roomless Nothing false (found_edit (engine_of c).edit_map k) n
+    room_by : (g : Option ℕ) → f ≡ g → roomless None false (found_at (engine_of c).edit_map g) n ≡ roomless None false (found_edit (engine_of c).edit_map k) n
     unfolding found_edit
-    room_by g h = ap (λ (x : Found). roomless Nothing false (found_at (engine_of c).edit_map x) n) (sym h ∙ q)
+    room_by g h = ap (λ (x : Option ℕ). roomless None false (found_at (engine_of c).edit_map x) n) (sym h ∙ q)
 
-    pub room-again : (j : ℕ) → f ≡ At j → false ≡ roomless Nothing false (found_edit (engine_of c).edit_map k) n
+    pub room-again : (j : ℕ) → f ≡ Some j → false ≡ roomless None false (found_edit (engine_of c).edit_map k) n
     unfolding roomless
-    room-again j h = room_by (At j) h
+    room-again j h = room_by (Some j) h
 
-    room_new : f ≡ Nothing → leb 256 n ≡ roomless Nothing false (found_edit (engine_of c).edit_map k) n
+    room_new : f ≡ None → leb 256 n ≡ roomless None false (found_edit (engine_of c).edit_map k) n
     unfolding roomless
-    room_new h = room_by Nothing h
+    room_new h = room_by None h
 
-  module _ (h : f ≡ Nothing) (n : ℕ) (e : n ≡ get_or c.numbers 1283 0) where
-    pub room-left : n < 256 → false ≡ roomless Nothing false (found_edit (engine_of c).edit_map k) (engine_of c).edit_map.len
+  module _ (h : f ≡ None) (n : ℕ) (e : n ≡ get_or c.numbers 1283 0) where
+    pub room-left : n < 256 → false ≡ roomless None false (found_edit (engine_of c).edit_map k) (engine_of c).edit_map.len
     room-left l = sym (lt-leb 256 (engine_of c).edit_map.len (omega (arith, l, e, edits_count c))) ∙ room_new (engine_of c).edit_map.len h
 
-    pub room-none : 256 ≤ n → true ≡ roomless Nothing false (found_edit (engine_of c).edit_map k) (engine_of c).edit_map.len
+    pub room-none : 256 ≤ n → true ≡ roomless None false (found_edit (engine_of c).edit_map k) (engine_of c).edit_map.len
     room-none l = sym (le-leb 256 (engine_of c).edit_map.len (omega (arith, l, e, edits_count c))) ∙ room_new (engine_of c).edit_map.len h
 
   module _ (e : Event) where
-    pub takes : (j : ℕ) → f ≡ At j → (t : Sequencer) → t ≡ with_edits (engine_of c) (removed_at (engine_of c).edit_map (At j))
+    pub takes : (j : ℕ) → f ≡ Some j → (t : Sequencer) → t ≡ with_edits (engine_of c) (removed_at (engine_of c).edit_map (Some j))
         → (g : Event) → g ≡ edited_by (record { end_time = get_or c.times (3076 + 2 * j) nan; fade_out = get_or c.times (3077 + 2 * j) nan }) e
         → (t ≡ with_edits (engine_of c) (removed (engine_of c).edit_map k)) × (g ≡ edited_if (found_edit (engine_of c).edit_map k) e)
     unfolding removed found_edit
     takes j h t u g v = (
-      u ∙ ap (λ (x : Found). with_edits (engine_of c) (removed_at (engine_of c).edit_map x)) (sym h ∙ q),
+      u ∙ ap (λ (x : Option ℕ). with_edits (engine_of c) (removed_at (engine_of c).edit_map x)) (sym h ∙ q),
       v ∙ ap (λ (x : StoredEdit). edited_by x.edit e) (stored-at c j no_edit (omega (arith, (found-place j h).0, (found-place j h).1)))
-          ∙ ap (λ (x : Found). edited_if (found_at (engine_of c).edit_map x) e) (sym h ∙ q),
+          ∙ ap (λ (x : Option ℕ). edited_if (found_at (engine_of c).edit_map x) e) (sym h ∙ q),
     )
 
-    pub takes_none : f ≡ Nothing → (engine_of c ≡ with_edits (engine_of c) (removed (engine_of c).edit_map k)) × (e ≡ edited_if (found_edit (engine_of c).edit_map k) e)
+    pub takes_none : f ≡ None → (engine_of c ≡ with_edits (engine_of c) (removed (engine_of c).edit_map k)) × (e ≡ edited_if (found_edit (engine_of c).edit_map k) e)
     unfolding removed found_edit
-    takes_none h = (ap (λ (x : Found). with_edits (engine_of c) (removed_at (engine_of c).edit_map x)) (sym h ∙ q), ap (λ (x : Found). edited_if (found_at (engine_of c).edit_map x) e) (sym h ∙ q))
+    takes_none h = (ap (λ (x : Option ℕ). with_edits (engine_of c) (removed_at (engine_of c).edit_map x)) (sym h ∙ q), ap (λ (x : Option ℕ). edited_if (found_at (engine_of c).edit_map x) e) (sym h ∙ q))

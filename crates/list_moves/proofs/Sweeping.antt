@@ -1,12 +1,12 @@
 -- The sounding list: an event is appended, one that ends is kept among the finished and the last fills its place, and the finished are let go.
-use Rattle.std.proofs.Common.{◌≡◌, ℕ, ◌+◌, ◌-◌, ◌*◌, ◌%◌, ◌^◌, ◌<◌, ◌≤◌, Bool, true, false, eqb, ltb, List, get_or, set, sym, refl, ap, ◌∙◌, subst, ap₂, arith, ltb-false, ltb-true, le-ltb, lt-ltb}
+use Rattle.std.proofs.Common.{◌≡◌, ℕ, ◌+◌, ◌-◌, ◌*◌, ◌%◌, ◌^◌, ◌<◌, ◌≤◌, Bool, true, false, eqb, ltb, get_or, set, sym, refl, ap, ◌∙◌, subst, ap₂, arith, ltb-false, ltb-true, le-ltb, lt-ltb}
 use lib.Ieee.{Float, le, nan}
 use Rattle.event.specs.declared.Event.{Event}
 use Rattle.event.specs.declared.EventId.{EventId}
 use Rattle.event.specs.Blank.{blank}
 use Rattle.lists.specs.Index.{no_id}
 use Rattle.sequencer.specs.declared.Sequencer.{Sequencer}
-use Rattle.sequencer.specs.Parts.{with_active, with_past, with_sounding, with_let_go}
+use Rattle.sequencer.specs.Parts.{with_active, with_past, with_let_go}
 use Rattle.sequencer.specs.Moves.{pushed_active, released_past, active_to_past}
 use Rattle.sequencer.specs.Turns.{filled_by_last, Finishing, finished_beyond, finishing_on, finishing_room, finishing_full}
 use Rattle.memory.specs.Memory.{Cells, engine_of, mode_if, stored_in, copied_in}

@@ -9,14 +9,19 @@ ghost use Rattle.memory.specs.Memory.{Cells, cells_of, before, after, engine_of}
 
 use crate::edits::seek;
 use event::{Event, EventId};
-use lists::Found;
 use memory::{
     ACTIVE, FINISHED, INDEX, LET_GO, Levels, MODE, Marks, Numbers, PAST, ROOM, SOUNDING, Times,
     copy_slot, put_event, sized,
 };
 
 // The place of a number in the sounding list.
-pub fn place(times: &Times, levels: &Levels, marks: &Marks, numbers: &Numbers, id: EventId) -> Found
+pub fn place(
+    times: &Times,
+    levels: &Levels,
+    marks: &Marks,
+    numbers: &Numbers,
+    id: EventId,
+) -> Option<usize>
     ensures { result ≡ place_in (engine_of (before times.now levels.now marks.now numbers.now)) id }
 {
     seek(numbers, INDEX, numbers[SOUNDING] as usize, id.0)
@@ -35,9 +40,8 @@ pub(crate) fn append(
     sized(times, levels, marks, numbers);
     let n = numbers[SOUNDING] as usize;
     if n < ROOM {
-        let id = event.id;
         put_event(times, levels, marks, numbers, ACTIVE + n, event);
-        numbers[INDEX + n] = id.0;
+        numbers[INDEX + n] = event.id.0;
         numbers[SOUNDING] = (n + 1) as u64;
     }
 }
@@ -99,9 +103,9 @@ pub fn active_to_past(
         if times[4 * (ACTIVE + i) + 1] <= limit {
             keep(times, levels, marks, numbers, i);
             fill(times, levels, marks, numbers, i, n);
-            n = n - 1;
+            n -= 1;
         } else {
-            i = i + 1;
+            i += 1;
         }
     }
 }
@@ -115,8 +119,6 @@ pub fn release_past(times: &Times, levels: &Levels, marks: &Marks, numbers: &mut
     if numbers[MODE] == 0 {
         return;
     }
-    let past = numbers[FINISHED];
-    let gone = numbers[LET_GO];
-    numbers[LET_GO] = std::num::wrapping_add_u64(gone, past);
+    numbers[LET_GO] = numbers[LET_GO].wrapping_add(numbers[FINISHED]);
     numbers[FINISHED] = 0;
 }

@@ -1,7 +1,7 @@
 // The stored edits.
 ghost use Rattle.std.specs.Prelude.{◌≡◌, ◌+◌, ◌*◌, ◌<◌, ◌≤◌, true, false, slice_index_or};
 ghost use Rattle.std.specs.Float.{nan};
-ghost use Rattle.lists.specs.declared.Found.TheVariants.{At, Nothing};
+ghost use Rattle.std.specs.declared.option.Option.TheVariants.{Some, None};
 ghost use Rattle.lists.specs.Edits.{placed, removed_at, found_edit, removed};
 ghost use Rattle.lists.specs.Edits as EditMaps;
 ghost use Rattle.refusals.specs.Refusals.{roomless};
@@ -10,29 +10,32 @@ ghost use Rattle.memory.specs.Memory.{cells_of, before, after, engine_of};
 ghost use Rattle.memory.specs.Edits.{found_in, with_edit, edited_if};
 
 use event::{Edit, Event, EventId};
-use lists::Found;
 use memory::{EDIT_NUMBERS, EDIT_TIMES, EDITS, Levels, Marks, Numbers, ROOM, Times, sized};
 
 // The place of a number among n from `first` on.
-pub(crate) fn seek(numbers: &Numbers, first: usize, n: usize, id: u64) -> Found
+pub(crate) fn seek(numbers: &Numbers, first: usize, n: usize, id: u64) -> Option<usize>
     requires { first ≤ 1024 }
     ensures { result ≡ found_in numbers.now first n id }
 {
     if ROOM < n {
-        return Found::Nothing;
+        return None;
     }
-    let mut i = 0;
-    while i < n {
+    for i in 0..n {
         if numbers[first + i] == id {
-            return Found::At(i);
+            return Some(i);
         }
-        i = i + 1;
     }
-    Found::Nothing
+    None
 }
 
 // The place of the stored edit of a number.
-fn find_edit(times: &Times, levels: &Levels, marks: &Marks, numbers: &Numbers, id: EventId) -> Found
+fn find_edit(
+    times: &Times,
+    levels: &Levels,
+    marks: &Marks,
+    numbers: &Numbers,
+    id: EventId,
+) -> Option<usize>
     ensures { result ≡ placed (engine_of (before times.now levels.now marks.now numbers.now)).edit_map id }
 {
     seek(numbers, EDIT_NUMBERS, numbers[EDITS] as usize, id.0)
@@ -58,6 +61,7 @@ fn put_edit(
 }
 
 // Replaces the edit of the number in its place, or appends it. Answers whether there is no room: then nothing changes.
+// (A Result of two empty values would be no plainer.)
 pub fn store_edit(
     times: &mut Times,
     levels: &Levels,
@@ -69,18 +73,18 @@ pub fn store_edit(
     ensures engine { engine_of (after times.new levels.now marks.now numbers.new)
         ≡ with_edits (engine_of (before times.old levels.now marks.now numbers.old))
         (EditMaps.stored (engine_of (before times.old levels.now marks.now numbers.old)).edit_map id edit) }
-    ensures full { result ≡ roomless Nothing false (found_edit (engine_of (before times.old levels.now marks.now numbers.old)).edit_map id)
+    ensures full { result ≡ roomless None false (found_edit (engine_of (before times.old levels.now marks.now numbers.old)).edit_map id)
         (engine_of (before times.old levels.now marks.now numbers.old)).edit_map.len }
     ensures refused { result ≡ true → after times.new levels.now marks.now numbers.new ≡ before times.old levels.now marks.now numbers.old }
 {
     sized(times, levels, marks, numbers);
     let found = find_edit(times, levels, marks, numbers, id);
     match found {
-        Found::At(i) => {
+        Some(i) => {
             put_edit(times, levels, marks, numbers, i, id.0, edit);
             false
         }
-        Found::Nothing => {
+        None => {
             let n = numbers[EDITS] as usize;
             if ROOM <= n {
                 return true;
@@ -103,17 +107,15 @@ fn close_gap(
 )
     requires { (at < n) × (n ≤ 256) × (n ≡ (engine_of (cells_of times.old levels.now marks.now numbers.old)).edit_map.len) }
     ensures { engine_of (after times.new levels.now marks.now numbers.new)
-        ≡ with_edits (engine_of (before times.old levels.now marks.now numbers.old)) (removed_at (engine_of (before times.old levels.now marks.now numbers.old)).edit_map (At at)) }
+        ≡ with_edits (engine_of (before times.old levels.now marks.now numbers.old)) (removed_at (engine_of (before times.old levels.now marks.now numbers.old)).edit_map (Some at)) }
 {
     sized(times, levels, marks, numbers);
     let m = n - 1;
-    let mut j = at;
-    while j < m {
+    for j in at..m {
         let next = j + 1;
         let id = numbers[EDIT_NUMBERS + next];
         let edit = edit_at(times, next);
         put_edit(times, levels, marks, numbers, j, id, edit);
-        j = next;
     }
     sized(times, levels, marks, numbers);
     numbers[EDITS] = m as u64;
@@ -148,12 +150,12 @@ pub(crate) fn take_edit(
     let id = event.id;
     let found = find_edit(times, levels, marks, numbers, id);
     match found {
-        Found::At(j) => {
+        Some(j) => {
             let edit = edit_at(times, j);
             let n = numbers[EDITS] as usize;
             close_gap(times, levels, marks, numbers, j, n);
             event.edited(edit)
         }
-        Found::Nothing => event,
+        None => event,
     }
 }

@@ -42,7 +42,7 @@ pub(crate) fn rise(
         }
         copy_slot(times, levels, marks, numbers, i, p);
         i = p;
-        passed = passed + 1;
+        passed += 1;
     }
     put_event(times, levels, marks, numbers, i, event);
     passed
@@ -116,10 +116,7 @@ pub(crate) fn pop(times: &mut Times, levels: &mut Levels, marks: &mut Marks, num
     ensures { engine_of (after times.new levels.new marks.new numbers.new) ≡ popped_ready (engine_of (before times.old levels.old marks.old numbers.old)) }
 {
     let n = numbers[WAITING] as usize;
-    if n == 0 {
-        return;
-    }
-    if ROOM < n {
+    if n == 0 || ROOM < n {
         return;
     }
     sized(times, levels, marks, numbers);

@@ -11,7 +11,6 @@ use memory::{
     ACTIVE, FINISHED, Levels, Marks, Numbers, PAST, ROOM, SOUNDING, Times, WAITING, event_at,
     put_unit, sized,
 };
-use runs::least;
 
 // The event at place k: of the `past` finished, and after these of the sounding.
 fn held_event(
@@ -51,13 +50,11 @@ pub fn all_to_ready(
 )
     ensures { engine_of (after times.new levels.new marks.new numbers.new) ≡ all_to_ready (engine_of (before times.old levels.old marks.old numbers.old)) }
 {
-    let past = least(numbers[FINISHED] as usize, ROOM);
-    let n = past + least(numbers[SOUNDING] as usize, ROOM);
-    let mut k = 0;
-    while k < n {
+    let past = (numbers[FINISHED] as usize).min(ROOM);
+    let n = past + (numbers[SOUNDING] as usize).min(ROOM);
+    for k in 0..n {
         let event = held_event(times, levels, marks, numbers, k, past);
         wait(times, levels, marks, numbers, event);
-        k = k + 1;
     }
     clear_lists(times, levels, marks, numbers);
 }
@@ -67,13 +64,9 @@ pub fn rewind_ready(times: &Times, levels: &mut Levels, marks: &mut Marks, numbe
     ensures { engine_of (after times.now levels.new marks.new numbers.now) ≡ rewound_ready (engine_of (before times.now levels.old marks.old numbers.now)) }
 {
     sized(times, levels, marks, numbers);
-    let n = least(numbers[WAITING] as usize, ROOM);
-    let mut k = 0;
-    while k < n {
+    let n = (numbers[WAITING] as usize).min(ROOM);
+    for k in 0..n {
         let event = event_at(times, levels, marks, numbers, k);
-        let unit = event.unit;
-        let unit = unit.reset();
-        put_unit(times, levels, marks, numbers, k, unit);
-        k = k + 1;
+        put_unit(times, levels, marks, numbers, k, event.unit.reset());
     }
 }

@@ -28,16 +28,15 @@ fn start_first(times: &mut Times, levels: &mut Levels, marks: &mut Marks, number
 fn start_due(times: &mut Times, levels: &mut Levels, marks: &mut Marks, numbers: &mut Numbers)
     ensures { engine_of (after times.new levels.new marks.new numbers.new) ≡ ready_to_active (engine_of (before times.old levels.old marks.old numbers.old)) }
 {
-    let mut n = numbers[WAITING] as usize;
+    let n = numbers[WAITING] as usize;
     if ROOM < n {
         return;
     }
-    while 0 < n {
+    for _ in 0..n {
         if !(times[4 * READY] < times[THRESHOLD]) {
             return;
         }
         start_first(times, levels, marks, numbers);
-        n = n - 1;
     }
 }
 

@@ -1,12 +1,12 @@
 // Random windows, minutes and lengths through `lodge`, with the edges of each.
-use lodge::{Answer, Hours, Window};
+use lodge::{Hours, Refusal, Window};
 
 // A number below `span`.
 fn below(span: u64, r: u32) -> u64 {
     if span == 0 {
         return 0;
     }
-    r as u64 % span
+    u64::from(r) % span
 }
 
 // Sixteen windows in ascending order, each at most `span` long and as far behind the one before, or touching it. In use are those of the first week, or any number up to 17; at times the last of them closes with the week, and at times one is changed at random.
@@ -20,23 +20,18 @@ fn hours_of(seed: u32, span: u64) -> Hours {
     };
     let mut r = seed;
     let mut last: u64 = 0;
-    let mut i: usize = 0;
-    while i < 16 {
+    for i in 0..16 {
         r = crate::random(r);
         let far = if r % 2 == 0 { 0 } else { below(span, r / 2) };
-        let opens = std::num::wrapping_add_u64(last, far);
-        last = std::num::wrapping_add_u64(
-            std::num::wrapping_add_u64(opens, 1),
-            below(span, r / 4096),
-        );
+        let opens = last.wrapping_add(far);
+        last = opens.wrapping_add(1).wrapping_add(below(span, r / 4096));
         hours.windows[i] = Window {
-            opens: opens,
+            opens,
             closes: last,
         };
         if last <= 10080 {
             hours.count = i + 1;
         }
-        i = i + 1;
     }
     changed(hours, crate::random(r))
 }
@@ -44,7 +39,7 @@ fn hours_of(seed: u32, span: u64) -> Hours {
 fn changed(mut hours: Hours, seed: u32) -> Hours {
     let r = seed / 8;
     let i = (r % 16) as usize;
-    let value = (r / 16) as u64 % 10082;
+    let value = u64::from(r / 16) % 10082;
     if seed % 8 == 0 {
         hours.count = (r % 18) as usize;
     }
@@ -58,17 +53,15 @@ fn changed(mut hours: Hours, seed: u32) -> Hours {
         return hours;
     }
     let n = hours.count;
-    if 0 < n {
-        if n <= 16 {
-            hours.windows[n - 1].closes = 10080;
-        }
+    if 0 < n && n <= 16 {
+        hours.windows[n - 1].closes = 10080;
     }
     hours
 }
 
 // Any minute, or one at a week's edge, or near the limit.
 fn minute_of(seed: u32) -> u64 {
-    let r = (seed / 8) as u64;
+    let r = u64::from(seed / 8);
     if seed % 8 == 0 {
         return 0xffff_ffff + r % 2;
     }
@@ -86,28 +79,26 @@ fn length_of(hours: Hours, seed: u32, span: u64) -> u64 {
     let r = seed / 8;
     if seed % 8 < 2 {
         let window = hours.windows[(r % 16) as usize];
-        let length = std::num::wrapping_sub_u64(window.closes, window.opens);
-        return std::num::wrapping_add_u64(length, (seed % 2) as u64);
+        let length = window.closes.wrapping_sub(window.opens);
+        return length.wrapping_add(u64::from(seed % 2));
     }
     if seed % 8 == 2 {
-        return 10079 + (r % 3) as u64;
+        return 10079 + u64::from(r % 3);
     }
     below(span, r)
 }
 
-fn answered(digest: u64, answer: Answer) -> u64 {
+fn answered(digest: u64, answer: Result<u64, Refusal>) -> u64 {
     match answer {
-        Answer::At(t) => digests::mixed(digests::mixed(digest, 0), t),
-        Answer::Refused(n) => digests::mixed(digests::mixed(digest, 1), n),
+        Ok(t) => digests::mixed(digests::mixed(digest, 0), t),
+        Err(refusal) => digests::mixed(digests::mixed(digest, 1), refusal.number()),
     }
 }
 
 pub(crate) fn hours_digest(rounds: u64) -> u64 {
     let mut digest: u64 = 0;
     let mut seed: u32 = 362436069;
-    let mut left = rounds;
-    while left > 0 {
-        left = left - 1;
+    for _ in 0..rounds {
         seed = crate::random(seed);
         let span = 1 << (seed % 12);
         let hours = hours_of(seed, span);

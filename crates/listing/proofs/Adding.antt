@@ -1,12 +1,15 @@
 -- A piece is added, or has no room. Assumes nothing.
 use mathlib.Core.Path.{◌≡◌, refl, sym, ap, ◌∙◌}
-use mathlib.Core.Bool.{Bool, true, false, not}
-use mathlib.Core.List.{List}
+use mathlib.Core.Bool.{Bool, true, false}
+use mathlib.Core.List.{List, ◌++◌}
 use Prim.Native.Nat.{ℕ, ◌+◌, ◌-◌, ◌≤◌, ◌<◌}
 use native.Mathlib.Omega.{arith}
 use borrow.Author.Tests.{le-leb, lt-leb, leb-true, leb-false}
-use lib.ListN.{length}
-use lib.Seq.{sets}
+use lib.ListN.{length, take, drop}
+use lib.Seq.{sets, sets-eq}
+use borrow.Rule.Slice.PartMut.{put_mid}
+use Rattle.std.proofs.lemmas.List.{take-append-drop}
+use Rattle.std.proofs.lemmas.Slice.{take-put_mid, drop-put_mid}
 use lib.Dec.{leb}
 use Rattle.listing.specs.Pieces.{text, add}
 
@@ -25,3 +28,13 @@ added piece out out' at n e h q = rw (sym (ap (λ (k : ℕ). leb (at + k) (lengt
 pub left_out : (piece out : List ℕ) (at n : ℕ) → n ≡ length piece → leb (at + n) (length out) ≡ false → text out at ≡ add piece (text out at)
 unfolding add
 left_out piece out at n e h = rw (sym (ap (λ (k : ℕ). leb (at + k) (length out)) e) ∙ h)
+
+-- a piece copied to a place stands there
+pub copied : (piece out : List ℕ) (at : ℕ) → at + length piece ≤ length out → put_mid at (at + length piece - at) out piece ≡ sets out at piece
+copied piece out at h =
+    let n = at + length piece in
+    let k = n - at in
+    let s = put_mid at k out piece in
+    let before = take-put_mid at k out piece n refl (omega arith) in
+    let behind = drop-put_mid at k out piece n (omega arith) (omega arith) (omega arith) in
+    sym (take-append-drop n s) ∙ ap (λ (l : List ℕ). l ++ drop n s) before ∙ ap (λ (l : List ℕ). (take at out ++ piece) ++ l) behind ∙ sym (sets-eq piece out at h)

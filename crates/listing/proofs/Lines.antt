@@ -3,14 +3,14 @@ use mathlib.Core.Path.{◌≡◌, refl, sym, ap, ◌∙◌, subst}
 use mathlib.Core.Logic.{◌≢◌}
 use mathlib.Core.List.{List, [], ◌∷◌, ◌++◌, append_assoc, append-nil}
 use mathlib.Core.Bool.{Bool, true, false, cond}
-use Prim.Native.Nat.{ℕ, zero, suc, ◌+◌, ◌-◌, ◌*◌, ◌/◌, ◌%◌, ◌^◌, ◌≤◌, ◌<◌}
+use Prim.Native.Nat.{ℕ, zero, suc, ◌+◌, ◌-◌, ◌*◌, ◌/◌, ◌%◌, ◌^◌, ◌≤◌, ◌<◌, max}
 use native.Mathlib.Nat.{add-zero, add-suc, le_of_suc-le-suc}
 use native.Mathlib.Numerals.{add-one}
 use native.Mathlib.Omega.{arith}
 use borrow.Author.Tests.{lt-ltb, le-ltb, eq-eqb, ne_eqb, eqb-true, eqb-false}
 use lib.ListN.{length, drop, set, get_or, length-append}
 use lib.Seq.{sets, set_comm, drop-cons, drop-length}
-use lib.Dec.{ltb, eqb}
+use lib.Dec.{eqb}
 use lib.Ieee.{Float, binary32, to_bits}
 use Rattle.listing.specs.Putting.{Putting, begin, further, place_is}
 use Rattle.listing.specs.Text.{digit, digits, places_of, decimal, spaced, kind_line, end_of, samples_from, samples_line}
@@ -59,34 +59,31 @@ all_digits {l} {at} {b} {whole} {now} {rest} zero h p = p.is ∙ ap (λ (j : ℕ
 all_digits {l} {at} {b} {whole} {now} {rest} (suc k) h p = absurd (omega arith)
 
 -- ---- counting digits
-pub record Counting (n k rest : ℕ) : Type 0 where
-  pub fuel : ℕ
-  pub some : 0 < fuel
-  pub sum : k + fuel ≡ 21
-  pub below : rest < 10 ^ fuel
-  pub same : places_of 20 n + 1 ≡ k + places_of fuel rest
 
-pub count_start : (n : ℕ) → n < 2 ^ 64 → Counting n 1 n
-count_start n h = record { fuel = 20; some = omega arith; sum = refl; below = omega arith; same = omega arith }
+tens : (k : ℕ) → 0 < 10 ^ k
+tens zero = omega arith
+tens (suc k) = let p = tens k in omega arith
 
-pub count_more : {n k rest : ℕ} → 10 ≤ rest → Counting n k rest → Counting n (k + 1) (rest / 10)
+-- a number from 10 ^ k on, below ten times that, has k + 1 digits
+pub places-log : (f k n : ℕ) → k ≤ f → 10 ^ k ≤ n → n < 10 * 10 ^ k → places_of f n ≡ k + 1
 unfolding places_of
-count_more {n} {k} {rest} h p = go p.fuel p.some p.sum p.below p.same
-  where
-    go : (f : ℕ) → 0 < f → k + f ≡ 21 → rest < 10 ^ f → places_of 20 n + 1 ≡ k + places_of f rest → Counting n (k + 1) (rest / 10)
-    go zero o s b e = absurd (omega arith)
-    go (suc zero) o s b e = absurd (omega arith)
-    go (suc (suc f)) o s b e =
-        let q : places_of (suc (suc f)) rest ≡ suc (places_of (suc f) (rest / 10)) = simp (le-ltb _ _ h) in
-        record { fuel = suc f; some = omega arith; sum = omega arith; below = omega arith; same = omega arith }
+places-log zero zero n l a b = refl
+places-log zero (suc k) n l a b = absurd (omega arith)
+places-log (suc f) zero n l a b = simp (lt-ltb n 10 (omega arith)) refl
+places-log (suc f) (suc k) n l a b =
+    let some = tens k in
+    let ten : 10 ≤ n = omega arith in
+    let e : suc k + 1 ≡ suc (k + 1) = omega arith in
+    let q = places-log f k (n / 10) (omega arith) (omega arith) (omega arith) in
+    simp (le-ltb n 10 ten) (ap suc q ∙ sym e)
 
-pub count_end : {n k rest : ℕ} → rest < 10 → Counting n k rest → k ≡ places_of 20 n
+-- and 0 has as many as 1
+pub places-most : (k n : ℕ) → k < 20 → 10 ^ k ≤ max n 1 → max n 1 < 10 * 10 ^ k → k + 1 ≡ places_of 20 n
 unfolding places_of
-count_end {n} {k} {rest} h p = go p.fuel p.same
-  where
-    go : (f : ℕ) → places_of 20 n + 1 ≡ k + places_of f rest → k ≡ places_of 20 n
-    go zero e = omega arith
-    go (suc f) e = let q : places_of (suc f) rest ≡ 1 = simp (lt-ltb _ _ h) in omega arith
+places-most k zero l a b = sym (places-log 20 k 1 (omega arith) a b)
+places-most k (suc n) l a b =
+    let e : max (suc n) 1 ≡ suc n = omega arith in
+    sym (places-log 20 k (suc n) (omega arith) (subst (λ (m : ℕ). 10 ^ k ≤ m) e a) (subst (λ (m : ℕ). m < 10 * 10 ^ k) e b))
 
 -- ---- numbers put one after the other
 pub spaced-step : (ns : List ℕ) (i : ℕ) → i < length ns → spaced (drop i ns) ≡ (32 ∷ decimal (get_or ns i 0)) ++ spaced (drop (i + 1) ns)
@@ -103,7 +100,7 @@ pub record Measured (ns : List ℕ) (n i : ℕ) : Type 0 where
   pub most : n ≤ 21 * i
   pub within : i ≤ length ns
 
-pub measure_next : {ns : List ℕ} {n i : ℕ} → Measured ns n i → i < length ns → (k : ℕ) → k ≡ places_of 20 (get_or ns i 0) → k ≤ 20 → Measured ns (n + 1 + k) (i + 1)
+pub measure_next : {ns : List ℕ} {n i : ℕ} → Measured ns n i → i < length ns → (k : ℕ) → k ≡ places_of 20 (get_or ns i 0) → k ≤ 20 → Measured ns (n + (1 + k)) (i + 1)
 measure_next {ns} {n} {i} m h k e b =
     let s = ap length (spaced-step ns i h) in
     let d = length-decimal (get_or ns i 0) in

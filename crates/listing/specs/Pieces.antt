@@ -1,6 +1,6 @@
 -- A text that grows piece by piece in a lent buffer. Assumes nothing.
 use Rattle.std.specs.Prelude.{◌≡◌, refl, Bool, true, false, cond, List, [], ◌∷◌, ◌++◌, ℕ, ◌+◌, ◌≤◌, length, leb}
-use Rattle.std.proofs.Common.{ap, ◌∙◌, append-nil, add-zero, arith, le-leb, length-append}
+use Rattle.std.proofs.Common.{ap, ◌∙◌, arith, le-leb, length-append}
 use Rattle.std.proofs.lemmas.List.Edits.{sets}
 use Rattle.std.proofs.Math.Seq.{length-sets}
 use Rattle.listing.specs.Putting.{sets_append}

@@ -1,4 +1,5 @@
 // The listing's lines, put at the front of a lent buffer. A buffer too short for the line stays as it is, and the answer is 0.
+// A text is a lent slice with a place beside it: document 01 has no heap, so no String holds it; in the contracts both are one record (specs/Pieces, Text).
 #![tactic(auto)]
 
 pub mod pieces;
@@ -26,11 +27,9 @@ fn put_digits(n: u64, base: u64, width: usize, out: &mut [u8], at: usize)
     ensures { out.new ≡ sets out.old at (digits base width n) }
 {
     let mut rest = n;
-    let mut left = width;
-    while left > 0 {
-        left = left - 1;
-        out[at + left] = digit(rest % base);
-        rest = rest / base;
+    for i in (0..width).rev() {
+        out[at + i] = digit(rest % base);
+        rest /= base;
     }
 }
 
@@ -39,13 +38,7 @@ fn places(n: u64) -> usize
     ensures value { result ≡ places_of 20 n }
     ensures upper_bound { result ≤ 20 }
 {
-    let mut k: usize = 1;
-    let mut rest = n;
-    while rest >= 10 {
-        rest = rest / 10;
-        k = k + 1;
-    }
-    k
+    n.max(1).ilog10() as usize + 1
 }
 
 // A space and n in decimal.
@@ -66,13 +59,11 @@ fn spaced_length(numbers: &[u64]) -> usize
     ensures value { result ≡ length (spaced numbers.now) }
     ensures upper_bound { result ≤ 105 }
 {
-    let mut n: usize = 0;
-    let mut i = 0;
-    while i < numbers.len() {
-        n = n + 1 + places(numbers[i]);
-        i = i + 1;
+    let mut total: usize = 0;
+    for n in numbers {
+        total += 1 + places(*n);
     }
-    n
+    total
 }
 
 // Numbers in decimal from `at` on, each behind a space.
@@ -82,10 +73,8 @@ fn put_numbers(numbers: &[u64], out: &mut [u8], at: usize) -> usize
     ensures value { result ≡ at + length (spaced numbers.now) }
 {
     let mut to = at;
-    let mut i = 0;
-    while i < numbers.len() {
-        to = put_number(numbers[i], out, to);
-        i = i + 1;
+    for n in numbers {
+        to = put_number(*n, out, to);
     }
     to
 }
@@ -146,12 +135,10 @@ fn put_samples(samples: &[f32], out: &mut [u8]) -> usize
     ensures value { result ≡ length (samples_from samples.now) }
 {
     let mut to = 0;
-    let mut i = 0;
-    while i < samples.len() {
+    for (i, sample) in samples.iter().enumerate() {
         let end = ending(i + 1, samples.len());
-        put_sample(samples[i], end, out, to);
-        to = to + 9;
-        i = i + 1;
+        put_sample(*sample, end, out, to);
+        to += 9;
     }
     to
 }
@@ -160,7 +147,7 @@ fn put_end(out: &mut [u8]) -> usize
     ensures out_after { out.new ≡ put (10 ∷ []) out.old }
     ensures value { result ≡ put_length (10 ∷ []) out.old }
 {
-    if out.len() == 0 {
+    if out.is_empty() {
         return 0;
     }
     out[0] = 10;
@@ -172,7 +159,7 @@ pub fn samples_line(samples: &[f32], out: &mut [u8]) -> usize
     ensures out_after { out.new ≡ put (samples_line samples.now) out.old }
     ensures value { result ≡ put_length (samples_line samples.now) out.old }
 {
-    if samples.len() == 0 {
+    if samples.is_empty() {
         return put_end(out);
     }
     if out.len() / 9 < samples.len() {

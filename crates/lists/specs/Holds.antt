@@ -4,14 +4,14 @@ use Rattle.std.proofs.Math.Path.{refl}
 use Rattle.std.proofs.Common.{sym, ap, ◌∙◌, append_assoc, arith, add-one, length-take-le, take-suc-set, take-take, get_or-take, drop-cons, drop-set-lt, le-leb}
 use Rattle.std.proofs.Math.ListN.{length-set}
 use Rattle.std.proofs.Math.Seq.{take-set-lt}
-use Rattle.lists.specs.declared.Found.{Found}
-use Rattle.lists.specs.declared.Found.TheVariants.{At, Nothing}
+use Rattle.std.specs.declared.option.Option.{Option}
+use Rattle.std.specs.declared.option.Option.TheVariants.{Some, None}
 use Rattle.lists.specs.Search.{seek, shift}
 
 -- the place, counted from b, of the first that passes
-unfoldable pub place : {A : Type 0} → (A → Bool) → List A → ℕ → Found
-place p [] b = Nothing
-place p (x ∷ l) b = cond (p x) (At b) (place p l (suc b))
+unfoldable pub place : {A : Type 0} → (A → Bool) → List A → ℕ → Option ℕ
+place p [] b = None
+place p (x ∷ l) b = cond (p x) (Some b) (place p l (suc b))
 
 module _ {A : Type 0} where
   pub record Holds (xs : List A) (n : ℕ) (l : List A) : Type 0 where
@@ -112,7 +112,7 @@ module _ {A : Type 0} where
   seek-place z p zero xs i h = refl
   seek-place z p (suc f) xs i h = rw (drop-cons xs i z (omega arith), seek-place z p f xs (suc i) (omega arith))
 
-  pub holds-seek : (z : A) (p : A → Bool) {xs : List A} {n : ℕ} {l : List A} → Holds xs n l → cond (nat_le n 256) (seek z p n xs 0) Nothing ≡ place p l 0
+  pub holds-seek : (z : A) (p : A → Bool) {xs : List A} {n : ℕ} {l : List A} → Holds xs n l → cond (nat_le n 256) (seek z p n xs 0) None ≡ place p l 0
   holds-seek z p {xs} {n} h =
-      ap (λ (b : Bool). cond b (seek z p n xs 0) Nothing) (le-leb n 256 h.fits)
+      ap (λ (b : Bool). cond b (seek z p n xs 0) None) (le-leb n 256 h.fits)
       ∙ seek-place z p n xs 0 (omega (arith, h.sized, h.fits)) ∙ ap (λ (x : List A). place p x 0) h.front

@@ -10,13 +10,12 @@ use Rattle.event.specs.declared.EventId.{EventId}
 use Rattle.event.specs.declared.Edit.{Edit}
 use Rattle.event.specs.Events.{number_of, edited_by}
 use Rattle.event.specs.Blank.{blank}
-use Rattle.ledger.specs.Lists.{has, later, place_of, edit_in, last_of, but_last, last_first}
-use Rattle.lists.specs.declared.Found.{Found}
-use Rattle.lists.specs.declared.Found.TheVariants.{At, Nothing}
+use Rattle.ledger.specs.Lists.{later, place_of, edit_in, last_of, but_last, last_first}
+use Rattle.std.specs.declared.option.Option.TheVariants.{Some}
 use Rattle.lists.specs.Index.{found_id, is_id, no_id}
 use Rattle.lists.specs.PlaceFound.{place_found}
-use Rattle.lists.specs.Holds.{Holds, holds_to, holds-length, holds-append, holds-set, holds_at, holds-none, holds-swap, holds-seek, place, swap_out}
-use Rattle.lists.specs.Numbered.{Distinct, place-stands, place_none, none-place, distinct_place, edit-place}
+use Rattle.lists.specs.Holds.{Holds, holds_to, holds-length, holds-append, holds-set, holds_at, holds-swap, holds-seek, place, swap_out}
+use Rattle.lists.specs.Numbered.{place-stands, edit-place}
 
 abbrev pub id_of : Event → EventId
 id_of e = e.id
@@ -45,7 +44,7 @@ place-from k [] b = refl
 place-from k (e ∷ l) b = go (number_of e == k.0) (place-from k l (suc b))
   where
     go : (t : Bool) → place_found (place (is_id k) (map id_of l) (suc b)) ≡ raised (suc b) (place_of k.0 l)
-        → place_found (cond t (At b) (place (is_id k) (map id_of l) (suc b))) ≡ raised b (elim t [ true ↦ some 0 | false ↦ later (place_of k.0 l) ])
+        → place_found (cond t (Some b) (place (is_id k) (map id_of l) (suc b))) ≡ raised b (elim t [ true ↦ some 0 | false ↦ later (place_of k.0 l) ])
     go true ih = let q : b ≡ b + 0 = omega arith in ap (λ (n : ℕ). some n) q
     go false ih = ih ∙ raised-later b (place_of k.0 l)
 
@@ -71,7 +70,7 @@ pub listed-set : (i : ℕ) (v : Event) {xs : List Event} {ids : List EventId} {n
 listed-set i v {l = l} p q h = (holds-set i v p h.0, holds_to (sym (ids_stay l i v q)) h.1)
 
 -- the number is found, and its event takes the edit
-pub listed-edit : (k : EventId) (d : Edit) (i : ℕ) {xs : List Event} {ids : List EventId} {n : ℕ} {l : List Event} → found_id (record { ids = ids; len = n }) k ≡ At i → Listed xs ids n l
+pub listed-edit : (k : EventId) (d : Edit) (i : ℕ) {xs : List Event} {ids : List EventId} {n : ℕ} {l : List Event} → found_id (record { ids = ids; len = n }) k ≡ Some i → Listed xs ids n l
     → (i < n) × Listed (slice_set xs i (edited_by d (slice_index_or xs i blank))) ids n (edit_in k.0 d l)
 listed-edit k d i {xs} {ids} {n} {l} q h =
     let at : place_of k.0 l ≡ some i = sym (index_find k h) ∙ ap place_found q in

@@ -10,13 +10,6 @@ ghost use Rattle.lists.specs.Past.{gone_by, kept_by};
 
 use event::{Edit, EventId, ReplayMode, StoredEdit};
 
-// A place in a list.
-#[derive(Clone, Copy)]
-pub enum Found {
-    At(usize),
-    Nothing,
-}
-
 // The index: place i holds the number of the event at place i of the sounding list.
 #[derive(Clone, Copy)]
 pub struct ActiveMap {
@@ -26,22 +19,18 @@ pub struct ActiveMap {
 
 impl ActiveMap {
     // The place of a number in the sounding list.
-    pub fn find(self, id: EventId) -> Found
+    pub fn find(self, id: EventId) -> Option<usize>
         ensures { result ≡ found_id self id }
     {
-        let n = self.len;
-        if 256 < n {
-            return Found::Nothing;
+        if 256 < self.len {
+            return None;
         }
-        let mut i = 0;
-        while i < n {
-            let x = self.ids[i];
-            if x.0 == id.0 {
-                return Found::At(i);
+        for i in 0..self.len {
+            if self.ids[i] == id {
+                return Some(i);
             }
-            i = i + 1;
         }
-        Found::Nothing
+        None
     }
 }
 
@@ -50,13 +39,6 @@ impl ActiveMap {
 pub struct EditMap {
     pub items: [StoredEdit; 256],
     pub len: usize,
-}
-
-// The edit of a number.
-#[derive(Clone, Copy)]
-pub enum FoundEdit {
-    Stored(Edit),
-    Missing,
 }
 
 impl EditMap {
@@ -78,82 +60,57 @@ impl EditMap {
     }
 
     // The place of the edit of a number.
-    fn place(self, id: EventId) -> Found
+    // It is the search of `ActiveMap::find` once more: one for both would need a trait for an element's number, which is no plainer.
+    fn place(self, id: EventId) -> Option<usize>
         ensures { result ≡ placed self id }
     {
-        let n = self.len;
-        if 256 < n {
-            return Found::Nothing;
+        if 256 < self.len {
+            return None;
         }
-        let mut at = 0;
-        while at < n {
-            let stored = self.items[at];
-            let key = stored.id;
-            if key.0 == id.0 {
-                return Found::At(at);
+        for at in 0..self.len {
+            if self.items[at].id == id {
+                return Some(at);
             }
-            at = at + 1;
         }
-        Found::Nothing
+        None
     }
 
     // The edit of a number.
-    pub fn find(self, id: EventId) -> FoundEdit
+    pub fn find(self, id: EventId) -> Option<Edit>
         ensures { result ≡ found_edit self id }
     {
-        let found = self.place(id);
-        match found {
-            Found::At(i) => {
-                let stored = self.items[i];
-                let edit = stored.edit;
-                FoundEdit::Stored(edit)
-            }
-            Found::Nothing => FoundEdit::Missing,
-        }
+        let i = self.place(id)?;
+        Some(self.items[i].edit)
     }
 
     // Replaces the edit of the number in its place, or appends it. A full map without the number stays as it is.
     pub fn insert(mut self, id: EventId, edit: Edit) -> EditMap
         ensures { result ≡ stored self id edit }
     {
-        let new = StoredEdit { id: id, edit: edit };
-        let n = self.len;
-        let found = self.place(id);
-        match found {
-            Found::At(i) => {
-                self.items[i] = new;
-                self
-            }
-            Found::Nothing => {
-                if n < 256 {
-                    self.items[n] = new;
-                    self.len = n + 1;
+        let new = StoredEdit { id, edit };
+        match self.place(id) {
+            Some(i) => self.items[i] = new,
+            None => {
+                if self.len < 256 {
+                    self.items[self.len] = new;
+                    self.len += 1;
                 }
-                self
             }
         }
+        self
     }
 
     // Takes the edit of the number out; the later ones close the gap.
     pub fn remove(mut self, id: EventId) -> EditMap
         ensures { result ≡ removed self id }
     {
-        let n = self.len;
-        let found = self.place(id);
-        match found {
-            Found::At(at) => {
-                let m = n - 1;
-                let mut i = at;
-                while i < m {
-                    let next = self.items[i + 1];
-                    self.items[i] = next;
-                    i = i + 1;
-                }
-                self.len = m;
-                self
+        if let Some(at) = self.place(id) {
+            self.len -= 1;
+            for i in at..self.len {
+                self.items[i] = self.items[i + 1];
             }
-            Found::Nothing => self,
         }
+        self
     }
 }
 
@@ -165,7 +122,7 @@ pub fn gone(mode: ReplayMode, let_go: u64, past_len: usize) -> u64
 {
     match mode {
         ReplayMode::All => let_go,
-        ReplayMode::None => std::num::wrapping_add_u64(let_go, past_len as u64),
+        ReplayMode::None => let_go.wrapping_add(past_len as u64),
     }
 }
 

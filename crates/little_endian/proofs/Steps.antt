@@ -1,9 +1,11 @@
 -- One turn of each loop that puts bytes. Assumes nothing.
-use mathlib.Core.Path.{◌≡◌, ap}
-use mathlib.Core.List.{List, [], ◌∷◌, ◌++◌}
-use Prim.Native.Nat.{ℕ, suc, ◌+◌, ◌-◌, ◌≤◌, ◌<◌}
+use mathlib.Core.Path.{◌≡◌, refl, sym, ap, ◌∙◌, subst}
+use mathlib.Core.List.{List, [], ◌++◌}
+use Prim.Native.Nat.{ℕ, suc, ◌+◌, ◌-◌, ◌≤◌, ◌<◌, min}
 use native.Mathlib.Omega.{arith}
-use borrow.Author.Tests.{lt-ltb, le-ltb, le-leb, lt-leb}
+use borrow.Author.Tests.{lt-ltb, le-ltb, le-leb, lt-leb, ltb-true, ltb-false}
+use mathlib.Core.Bool.{Bool, true, false}
+use lib.Dec.{ltb}
 use lib.ListN.{length, drop, get_or, drop_of_length-le}
 use lib.Seq.{drop-cons, sets}
 use Rattle.listing.specs.Pieces.{text, add}
@@ -33,6 +35,14 @@ module _ (room : ℕ) (ws ns : List ℕ) (i : ℕ) where
   pub no_number : i < length ws → length ns ≤ i → rest room i ≡ []
   unfolding fields_in
   no_number h k = rw (drop-cons ws i 0 h, drop_of_length-le ns k)
+
+  -- behind the last pair nothing is left
+  pub no_pair : i ≡ min (length ws) (length ns) → rest room i ≡ []
+  no_pair e = go (ltb i (length ws)) (ltb-true i (length ws)) (ltb-false i (length ws))
+    where
+      go : (b : Bool) → (b ≡ true → i < length ws) → (b ≡ false → length ws ≤ i) → rest room i ≡ []
+      go true p q = let h = p refl in no_number h (omega arith)
+      go false p q = no_width (q refl)
 
   pub no_room : i < length ws → i < length ns → room < get_or ws i 0 → rest room i ≡ []
   unfolding fields_in
@@ -64,7 +74,7 @@ module _ (ws ns l : List ℕ) where
       (omega arith, ended p)
 
   -- one field more
-  pub turn : {now : List ℕ} {at i : ℕ} → Fields now at i → i < length ws → i < length ns → get_or ws i 0 ≤ length now - at
+  turn : {now : List ℕ} {at i : ℕ} → Fields now at i → i < length ws → i < length ns → get_or ws i 0 ≤ length now - at
       → (now' : List ℕ) → now' ≡ sets now at (little_endian (get_or ws i 0) (get_or ns i 0)) → Fields now' (at + get_or ws i 0) (i + 1)
   turn {now} {at} {i} f h k room now' e =
       let s = same-long f.put in
@@ -76,3 +86,10 @@ module _ (ws ns l : List ℕ) where
         put = place_is (left_is p (ap (λ (r : ℕ). fields_in r (drop (i + 1) ws) (drop (i + 1) ns)) z)) (ap (λ (j : ℕ). at + j) b);
         within = let g = f.within in omega arith;
       }
+
+  -- one field more, of a width and a number that are the pair's
+  pub turn_by : {now : List ℕ} {at i : ℕ} → Fields now at i → i < length ws → i < length ns → (w n j : ℕ) → w ≡ get_or ws i 0 → n ≡ get_or ns i 0 → w ≤ length now - at
+      → (now' : List ℕ) → now' ≡ sets now at (little_endian w n) → j ≡ i + 1 → Fields now' (at + w) j
+  turn_by {now} {at} {i} f h k w n j p q room now' e s =
+      subst (λ (x : ℕ). Fields now' (at + w) x) (sym s)
+      (subst (λ (x : ℕ). Fields now' (at + x) (i + 1)) (sym p) (turn f h k (omega arith) now' (e ∙ (λ t. sets now at (little_endian (p t) (q t))))))

@@ -1,5 +1,5 @@
 -- Numbers as little-endian fields, one behind the other. Assumes nothing.
-use Rattle.std.specs.Prelude.{ℕ, ◌+◌, ◌-◌, ◌≤◌, cond, ◌≡◌, refl, List, [], ◌∷◌, ◌++◌, ltb, Float, length}
+use Rattle.std.specs.Prelude.{ℕ, ◌-◌, ◌≤◌, cond, ◌≡◌, refl, List, [], ◌∷◌, ◌++◌, ltb, Float, length}
 use Rattle.std.proofs.Common.{arith, ap, le-ltb, length-append}
 use Rattle.std.specs.Float.{binary32, binary64}
 use Rattle.std.specs.Float.Ieee.{to_bits}

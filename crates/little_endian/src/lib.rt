@@ -14,13 +14,9 @@ fn put_word(n: u64, width: usize, out: &mut [u8], at: usize)
     ensures { out.new ≡ sets out.old at (little_endian width n) }
 {
     let mut rest = n;
-    let mut to = at;
-    let mut left = width;
-    while left > 0 {
+    for to in at..at + width {
         out[to] = (rest % 256) as u8;
-        rest = rest / 256;
-        to = to + 1;
-        left = left - 1;
+        rest /= 256;
     }
 }
 
@@ -30,22 +26,17 @@ pub fn put_fields(widths: &[usize], numbers: &[u64], out: &mut [u8]) -> usize
     ensures lent { out.new ≡ sets out.old 0 (fields_in (length out.old) widths.now numbers.now) }
 {
     let mut at: usize = 0;
-    let mut i: usize = 0;
-    while i < widths.len() {
-        if numbers.len() <= i {
+    for (width, number) in widths.iter().zip(numbers) {
+        if out.len() - at < *width {
             return at;
         }
-        let width = widths[i];
-        if out.len() - at < width {
-            return at;
-        }
-        put_word(numbers[i], width, out, at);
-        at = at + width;
-        i = i + 1;
+        put_word(*number, *width, out, at);
+        at += *width;
     }
     at
 }
 
+// (Beside `put_samples`, which asks for the room of all its samples once, and not in each turn.)
 // A sample's four bytes from a place on; answers the next free place. Where they have no room nothing is put, and the place stays.
 pub fn put_sample(sample: f32, out: &mut [u8], at: usize) -> usize
     ensures { text out.new result ≡ add (sample_bytes sample) (text out.old at) }
@@ -72,12 +63,10 @@ pub fn put_samples(samples: &[f32], out: &mut [u8], at: usize) -> usize
         return at;
     }
     let mut to = at;
-    let mut i: usize = 0;
-    while i < samples.len() {
-        let bits = float_bits::f32_to_bits(samples[i]);
+    for sample in samples {
+        let bits = float_bits::f32_to_bits(*sample);
         put_word(bits as u64, 4, out, to);
-        to = to + 4;
-        i = i + 1;
+        to += 4;
     }
     to
 }

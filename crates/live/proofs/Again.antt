@@ -1,19 +1,15 @@
 -- All let go, the clock set back, and a new rate, as the engine has them.
-use Rattle.std.proofs.Common.{◌≡◌, ℕ, ◌+◌, ◌-◌, ◌%◌, ◌^◌, ◌<◌, ◌≤◌, min, true, false, eqb, List, get_or, set, sym, refl, ap, ◌∙◌, arith, le-ltb, lt-ltb, eq-eqb}
+use Rattle.std.proofs.Common.{◌≡◌, ℕ, ◌+◌, ◌%◌, ◌^◌, min, true, false, eqb, List, get_or, set, sym, refl, ap, ◌∙◌, eq-eqb}
 use lib.Ieee.{Float, eq, nan}
-use Rattle.event.specs.declared.Event.{Event}
-use Rattle.event.specs.declared.ReplayMode.TheVariants.{All, None}
-use Rattle.event.specs.Blank.{blank}
 use Rattle.floats.specs.Arithmetic.{◌÷ᵈ◌, zeroᶠ, oneᶠ, -∞}
 use Rattle.refusals.specs.Refusals.{rate_refusal}
 use Rattle.sequencer.specs.declared.Sequencer.{Sequencer}
-use Rattle.sequencer.specs.declared.Answer.{Answer}
 use Rattle.sequencer.specs.declared.Answer.TheVariants.{Done, Refused}
-use Rattle.sequencer.specs.Parts.{with_ready, with_active, with_past, with_edits, with_times, with_rate, with_let_go}
-use Rattle.sequencer.specs.Moves.{held_at, all_to_ready}
+use Rattle.sequencer.specs.Parts.{with_ready, with_active, with_past, with_edits, with_times, with_rate}
+use Rattle.sequencer.specs.Moves.{all_to_ready}
 use Rattle.sequencer.specs.Resets.{emptied_lists, rewound_ready, reset_by, resets, re_rated, rates}
-use Rattle.memory.specs.Memory.{Cells, cells_of, event_at, mode_if, engine_of}
-use Rattle.memory.specs.Laws.{Sized, with_number, number_sized, waiting_is, sounding_is, finished_is, let_go_is, sounds-at, finished_at}
+use Rattle.memory.specs.Memory.{Cells, cells_of, mode_if, engine_of}
+use Rattle.memory.specs.Laws.{Sized, with_number, number_sized, waiting_is, sounding_is, finished_is, let_go_is}
 use Rattle.live.specs.CallContracts.{gone_all}
 use Rattle.memory.specs.Clock.{with_time, time_sized, clock_is, threshold_is, rate-is, duration_is, mode_in, rate_in}
 use Rattle.memory.specs.Edits.{edits_are}

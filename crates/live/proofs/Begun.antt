@@ -1,5 +1,5 @@
 -- The beginning of a tick or a block, and what the calls make of it.
-use Rattle.std.proofs.Common.{◌≡◌, ℕ, zero, suc, ◌+◌, ◌-◌, ◌/◌, ◌≤◌, min, true, false, eqb, List, [], ◌∷◌, length, get_or, take, replicate, sym, refl, ap, ◌∙◌, ap₂, arith, eq-eqb}
+use Rattle.std.proofs.Common.{◌≡◌, ℕ, zero, suc, ◌-◌, ◌/◌, ◌≤◌, min, false, eqb, List, ◌∷◌, length, get_or, take, replicate, sym, refl, ap, ◌∙◌, ap₂, arith, eq-eqb}
 use lib.Ieee.{Float, nan}
 use Rattle.event.specs.declared.Event.{Event}
 use Rattle.event.specs.declared.MixOrder.{MixOrder}
@@ -7,7 +7,7 @@ use Rattle.event.specs.declared.Placings.{Placings}
 use Rattle.event.specs.declared.ReplayMode.{ReplayMode}
 use Rattle.event.specs.declared.ReplayMode.TheVariants.{All, None}
 use Rattle.event.specs.Placings.{no_placings}
-use Rattle.floats.specs.Arithmetic.{◌+ᵈ◌, ◌-ᵈ◌, ◌×ᵈ◌, zeroᶠ, halfᶠ, whole}
+use Rattle.floats.specs.Arithmetic.{◌+ᵈ◌, ◌-ᵈ◌, ◌×ᵈ◌, zeroᶠ, halfᶠ}
 use Rattle.ledger.specs.BlockSamples.{Span, after_block, overlay}
 use Rattle.mixing.specs.declared.Span as MixSpans
 use Rattle.mixing.specs.Blocks.{as_span, cleared_places}

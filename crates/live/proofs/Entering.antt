@@ -1,17 +1,13 @@
 -- A push, by what its checks say.
-use Rattle.std.proofs.Common.{◌≡◌, ℕ, ◌+◌, ◌%◌, ◌^◌, min, true, false, eqb, get_or, sym, refl, ap, ◌∙◌, eq-eqb}
+use Rattle.std.proofs.Common.{◌≡◌, ℕ, ◌+◌, ◌%◌, ◌^◌, min, false, eqb, get_or, sym, refl, ap, ◌∙◌, subst, eq-eqb}
 use lib.Ieee.{Float, nan}
 use Rattle.event.specs.declared.Event.{Event}
 use Rattle.event.specs.declared.Fade.{Fade}
 use Rattle.event.specs.declared.Source.{Source}
 use Rattle.event.specs.Events.{new_event}
-use Rattle.floats.specs.Arithmetic.{◌-ᵈ◌}
 use Rattle.ledger.specs.Calls.{PushKind}
-use Rattle.ledger.specs.Refusals.{stated_end}
-use Rattle.ledger.specs.Steps.{pushed_time}
 use Rattle.refusals.specs.Refusals.{push_refusal}
 use Rattle.sequencer.specs.declared.Sequencer.{Sequencer}
-use Rattle.sequencer.specs.declared.Outcome.{Outcome}
 use Rattle.sequencer.specs.declared.Answer.{Answer}
 use Rattle.sequencer.specs.declared.Answer.TheVariants.{Number, Refused}
 use Rattle.sequencer.specs.Parts.{with_next}
@@ -19,6 +15,8 @@ use Rattle.sequencer.specs.Moves.{pushed_event}
 use Rattle.sequencer.specs.Pushes.{pushes_to, admitted, pushes}
 use Rattle.sequencer.specs.Rises.{rise_of, rise_to, rise_by, pushes_told}
 use Rattle.memory.specs.Memory.{Cells, engine_of}
+use Rattle.live.specs.declared.pushes.Stated.{Stated}
+use Rattle.live.specs.CallContracts.{stated}
 use Rattle.memory.specs.Laws.{Sized, with_number, next-is}
 
 module _ (s : Sequencer) (start end lasts from until : Float) (curve : Fade) (fade_in fade_out : Float) (source : Source) (gain : Float) where
@@ -61,13 +59,14 @@ module _ (c : Cells) (start end lasts from until : Float) (curve : Fade) (fade_i
       accepted (engine_of c) start end lasts from until curve fade_in fade_out source gain no q z (engine_of d) e next k he hn g.0 g.1 in
       (next-is d next y ∙ r.0, r.1)
 
--- a push of each kind; P is what else its contract says
+-- a push with its times stated in one of the ways; P is what else its contract says
 module _ (kind : PushKind) (c : Cells) (t : Sequencer) (a : Answer) (k : ℕ) (P : Type 0) (start end : Float) (curve : Fade) (fade_in fade_out : Float) (source : Source) (gain : Float) where
-  pub pushed_in : (let o = pushes_to (engine_of c) start end (stated_end kind start end -ᵈ start) (pushed_time kind (get_or c.times 3072 nan) start)
-      (pushed_time kind (get_or c.times 3072 nan) (stated_end kind start end)) curve fade_in fade_out source gain in
-      let n = rise_to (engine_of c) start end (stated_end kind start end -ᵈ start) (pushed_time kind (get_or c.times 3072 nan) start)
-      (pushed_time kind (get_or c.times 3072 nan) (stated_end kind start end)) curve fade_in fade_out source gain in
-      let r = pushes_told kind (engine_of c) start end curve fade_in fade_out source gain in
-      (t ≡ o.sequencer) × ((a ≡ o.answer) × ((k ≡ n) × P)) → (t ≡ r.sequencer) × ((a ≡ r.answer) × ((k ≡ r.rise) × P)))
+  abbrev pub Entered : Stated → Type 0
+  Entered w =
+      let o = pushes_to (engine_of c) w.start w.end w.lasts w.from w.until curve fade_in fade_out source gain in
+      (t ≡ o.sequencer) × ((a ≡ o.answer) × ((k ≡ rise_to (engine_of c) w.start w.end w.lasts w.from w.until curve fade_in fade_out source gain) × P))
+
+  pub pushed_in : (w : Stated) → w ≡ stated kind start end (get_or c.times 3072 nan) → Entered w
+      → (let r = pushes_told kind (engine_of c) start end curve fade_in fade_out source gain in (t ≡ r.sequencer) × ((a ≡ r.answer) × ((k ≡ r.rise) × P)))
   unfolding pushes rise_by engine_of
-  pushed_in g = g
+  pushed_in w q g = subst Entered q g

@@ -1,5 +1,5 @@
 -- The passes of a tick and of a block over the sounding events.
-use Rattle.std.proofs.Common.{◌≡◌, ℕ, ◌+◌, ◌-◌, ◌<◌, min, get_or, sym, refl, ap, ◌∙◌, subst, arith}
+use Rattle.std.proofs.Common.{◌≡◌, ℕ, ◌+◌, ◌-◌, ◌<◌, min, get_or, sym, ap, ◌∙◌, subst, arith}
 use Rattle.event.specs.declared.Event.{Event}
 use Rattle.event.specs.declared.Unit.{Unit}
 use Rattle.event.specs.declared.MixOrder.{MixOrder}

@@ -1,10 +1,7 @@
 -- Arrays of zeros, but for six places, hold a fresh engine.
-use Rattle.std.proofs.Common.{◌≡◌, ℕ, zero, suc, ◌+◌, ◌*◌, ◌%◌, ◌<◌, ◌≤◌, true, false, cond, eqb, leb, ◌≢◌, List, [], ◌∷◌, length, get_or, set, replicate, sym, refl, ap, ◌∙◌, subst, ap₂, arith, length-set, get_or-set_other, get_or-set_same}
+use Rattle.std.proofs.Common.{◌≡◌, ℕ, zero, suc, ◌+◌, ◌*◌, ◌%◌, ◌<◌, ◌≤◌, eqb, leb, ◌≢◌, List, ◌∷◌, length, get_or, set, replicate, refl, ap, ◌∙◌, ap₂, arith, length-set, get_or-set_other, get_or-set_same}
 use lib.Ieee.{Float, nan}
 use lib.ListN.{get_or-replicate, length-replicate}
-use Rattle.event.specs.declared.Event.{Event}
-use Rattle.event.specs.declared.EventId.{EventId}
-use Rattle.event.specs.declared.StoredEdit.{StoredEdit}
 use Rattle.event.specs.declared.ReplayMode.{ReplayMode}
 use Rattle.event.specs.declared.ReplayMode.TheVariants.{All, None}
 use Rattle.floats.specs.Arithmetic.{◌÷ᵈ◌, zeroᶠ, oneᶠ, -∞, whole}

@@ -5,13 +5,19 @@ use Rattle.event.specs.declared.Event.{Event}
 use Rattle.event.specs.declared.MixOrder.{MixOrder}
 use Rattle.event.specs.declared.ReplayMode.{ReplayMode}
 use Rattle.event.specs.declared.ReplayMode.TheVariants.{All, None}
-use Rattle.floats.specs.Arithmetic.{◌+ᵈ◌, ◌×ᵈ◌, whole}
+use Rattle.floats.specs.Arithmetic.{◌+ᵈ◌, ◌-ᵈ◌, ◌×ᵈ◌, whole}
+use Rattle.ledger.specs.Calls.{PushKind, absolute, relative, by_duration}
+use Rattle.ledger.specs.Refusals.{stated_end}
+use Rattle.ledger.specs.Steps.{pushed_time}
 use Rattle.ledger.specs.BlockSamples as Ledger
 use Rattle.ledger.specs.BlockSamples.{after_block}
 use Rattle.mixing.specs.declared.Span.{Span}
 use Rattle.sequencer.specs.declared.Sequencer.{Sequencer}
 use Rattle.sequencer.specs.declared.Answer.{Answer}
 use Rattle.sequencer.specs.declared.Answer.TheVariants.{Number, Applied, Past, Stored, Done, Rendered, Refused}
+use Rattle.live.specs.declared.pushes.Stated.{Stated}
+use Rattle.live.specs.declared.pushes.Timing.{Timing}
+use Rattle.live.specs.declared.pushes.Timing.TheVariants.{Absolute, Relative, Duration}
 use Rattle.sequencer.specs.Passing.{pass_of}
 use Rattle.sequencer.specs.Rendering.{Passed, add_block}
 
@@ -29,6 +35,22 @@ Refuses (Refused n) = Unit {0}
 abbrev pub mode_number : ReplayMode → ℕ
 mode_number All = 0
 mode_number None = 1
+
+-- the way in which a push states its times
+abbrev pub timed : Timing → PushKind
+timed Absolute = absolute
+timed Relative = relative
+timed Duration = by_duration
+
+-- a push's times: as given, how long it lasts, and from when until when its event is to last
+abbrev pub stated : PushKind → (start end clock : Float) → Stated
+stated kind start end clock = record {
+  start = start;
+  end = end;
+  lasts = stated_end kind start end -ᵈ start;
+  from = pushed_time kind clock start;
+  until = pushed_time kind clock (stated_end kind start end);
+}
 
 -- the count of those let go once a reset in mode None has let go of all
 abbrev pub gone_all : Sequencer → ℕ

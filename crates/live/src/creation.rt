@@ -9,31 +9,7 @@ use event::ReplayMode;
 use memory::{CHANNELS, DURATION, Levels, MODE, Marks, NEXT, Numbers, RATE, THRESHOLD, Times};
 use sequencer::Answer;
 
-fn clear_times(l: &mut Times)
-    ensures { l.new ≡ replicate 3588 zeroᶠ }
-{
-    *l = [0.0; 3588];
-}
-
-fn clear_levels(l: &mut Levels)
-    ensures { l.new ≡ replicate 3072 zeroᶠ }
-{
-    *l = [0.0; 3072];
-}
-
-fn clear_marks(l: &mut Marks)
-    ensures { l.new ≡ replicate 3072 0 }
-{
-    *l = [0; 3072];
-}
-
-fn clear_numbers(l: &mut Numbers)
-    ensures { l.new ≡ replicate 1288 0 }
-{
-    *l = [0; 1288];
-}
-
-// The number of a mode: 0 is All.
+// The number of a mode: 0 is All. (A From would have to stand in crate event, for this one use, and is no plainer.)
 fn mode_number(mode: ReplayMode) -> u64
     ensures { result ≡ mode_number mode }
 {
@@ -55,12 +31,11 @@ fn fresh(
 )
     ensures { engine_of (after times.new levels.new marks.new numbers.new) ≡ fresh_engine outputs mode first }
 {
-    clear_times(times);
-    clear_levels(levels);
-    clear_marks(marks);
-    clear_numbers(numbers);
-    let top: f64 = 1.0 / 0.0;
-    times[THRESHOLD] = -top;
+    times.fill(0.0);
+    levels.fill(0.0);
+    marks.fill(0);
+    numbers.fill(0);
+    times[THRESHOLD] = f64::NEG_INFINITY;
     times[RATE] = 44100.0;
     times[DURATION] = 1.0 / 44100.0;
     numbers[CHANNELS] = outputs as u64;
@@ -72,10 +47,7 @@ fn fresh(
 fn refuses_creation(outputs: usize, first: u64) -> bool
     ensures { result ≡ refuses_creation outputs first }
 {
-    if outputs < 1 {
-        return true;
-    }
-    8 < outputs || first == 0
+    outputs < 1 || 8 < outputs || first == 0
 }
 
 // Makes an empty engine of the arrays, whatever they held.

@@ -7,9 +7,8 @@ ghost use Rattle.live.specs.CallContracts.{Refuses};
 
 use event::{Edit, EventId};
 use list_moves::{place, store_edit};
-use lists::Found;
 use memory::{ACTIVE, CLOCK, Levels, Marks, Numbers, THRESHOLD, Times, sized};
-use refusals::edit_limits;
+use refusals::{Refusal, edit_limits};
 use sequencer::Answer;
 
 // End and fade-out of the sounding event at place i.
@@ -38,22 +37,21 @@ fn amend(
     ensures refused { Refuses result → after times.new levels.now marks.now numbers.new ≡ before times.old levels.now marks.now numbers.old }
 {
     sized(times, levels, marks, numbers);
-    let refusal = edit_limits(end, edit.fade_out);
-    if refusal != 0 {
-        return Answer::Refused(refusal);
+    if let Some(refusal) = edit_limits(end, edit.fade_out) {
+        return Answer::Refused(refusal.number());
     }
     let found = place(times, levels, marks, numbers, id);
     match found {
-        Found::At(i) => {
+        Some(i) => {
             put_end(times, i, edit);
             Answer::Applied
         }
-        Found::Nothing => {
+        None => {
             if edit.end_time < times[THRESHOLD] {
                 return Answer::Past;
             }
             if store_edit(times, levels, marks, numbers, id, edit) {
-                return Answer::Refused(9);
+                return Answer::Refused(Refusal::NoRoom.number());
             }
             Answer::Stored
         }
@@ -94,9 +92,8 @@ pub fn edit_relative(
     ensures answer { result ≡ (Edits.edits relative_end (engine_of (before times.old levels.now marks.now numbers.old)) id end_time fade_out).answer }
     ensures refused { Refuses result → after times.new levels.now marks.now numbers.new ≡ before times.old levels.now marks.now numbers.old }
 {
-    let until = times[CLOCK] + end_time;
     let edit = Edit {
-        end_time: until,
+        end_time: times[CLOCK] + end_time,
         fade_out,
     };
     amend(times, levels, marks, numbers, id, end_time, edit)

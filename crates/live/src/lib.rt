@@ -15,7 +15,7 @@ mod resets;
 pub use creation::create;
 pub use edits::{edit, edit_relative};
 pub use list_moves::place;
-pub use pushes::{Pushed, push, push_duration, push_relative};
+pub use pushes::{Pushed, Timing, push, push_duration, push_relative, push_timed};
 pub use readers::{counts, time};
 pub use rendering::{process, tick};
 pub use resets::{reset, set_sample_rate};

@@ -2,16 +2,17 @@
 ghost use Rattle.std.specs.Prelude.{◌≡◌, ◌+◌, min, slice_index};
 ghost use Rattle.event.specs.Events.{new_event};
 ghost use Rattle.ledger.specs.Calls.{absolute, relative, by_duration};
+ghost use Rattle.refusals.specs.Numbers.{refusal_number};
 ghost use Rattle.refusals.specs.Refusals.{push_refusal};
 ghost use Rattle.sequencer.specs.Pushes.{pushes_to};
 ghost use Rattle.sequencer.specs.Rises.{rise_to, pushes_told};
 ghost use Rattle.memory.specs.Memory.{before, after, engine_of};
-ghost use Rattle.live.specs.CallContracts.{Refuses};
+ghost use Rattle.live.specs.CallContracts.{Refuses, timed, stated};
 
 use event::{Event, EventId, Fade, Source};
 use list_moves::push_event;
 use memory::{CLOCK, FINISHED, Levels, Marks, NEXT, Numbers, SOUNDING, Times, WAITING, sized};
-use refusals::{held, push_refusal};
+use refusals::{Refusal, held, push_refusal};
 use sequencer::Answer;
 
 // What a push answers: the event's number or the refusal, and how many levels the event rose in the heap (document 02, Paper 13):
@@ -20,6 +21,14 @@ use sequencer::Answer;
 pub struct Pushed {
     pub answer: Answer,
     pub rise: usize,
+}
+
+// How a push states its times: start and end; both relative to the clock; or start and duration.
+#[derive(Clone, Copy, PartialEq, Eq)]
+pub enum Timing {
+    Absolute,
+    Relative,
+    Duration,
 }
 
 // A push's times: start and end (or duration) as given, how long it lasts, and from when until when its event is to last.
@@ -32,6 +41,37 @@ struct Stated {
     until: f64,
 }
 
+impl Stated {
+    // Of the times as given; `clock` is added after the checks, where the times are relative to it.
+    fn new(timing: Timing, start: f64, end: f64, clock: f64) -> Stated
+        ensures { result ≡ stated (timed timing) start end clock }
+    {
+        match timing {
+            Timing::Absolute => Stated {
+                start,
+                end,
+                lasts: end - start,
+                from: start,
+                until: end,
+            },
+            Timing::Relative => Stated {
+                start,
+                end,
+                lasts: end - start,
+                from: start + clock,
+                until: end + clock,
+            },
+            Timing::Duration => Stated {
+                start,
+                end,
+                lasts: start + end - start,
+                from: start,
+                until: start + end,
+            },
+        }
+    }
+}
+
 // What a push gives besides.
 #[derive(Clone, Copy)]
 struct Voice {
@@ -42,9 +82,9 @@ struct Voice {
     gain: f32,
 }
 
-// The first refusal that applies, or 0.
-fn refusal_of(numbers: &Numbers, stated: Stated, voice: Voice) -> u64
-    ensures { result ≡ push_refusal stated.start stated.end stated.lasts voice.fade_in voice.fade_out voice.source voice.gain
+// The first refusal that applies.
+fn refusal_of(numbers: &Numbers, stated: Stated, voice: Voice) -> Option<Refusal>
+    ensures { refusal_number result ≡ push_refusal stated.start stated.end stated.lasts voice.fade_in voice.fade_out voice.source voice.gain
         (min (slice_index numbers.now 1280 + (slice_index numbers.now 1281 + slice_index numbers.now 1282)) 256)
         (slice_index numbers.now 1286) }
 {
@@ -52,14 +92,13 @@ fn refusal_of(numbers: &Numbers, stated: Stated, voice: Voice) -> u64
     let sounding = numbers[SOUNDING] as usize;
     let finished = numbers[FINISHED] as usize;
     let n = held(waiting, sounding, finished);
-    let source = voice.source;
     push_refusal(
         stated.start,
         stated.end,
         stated.lasts,
         voice.fade_in,
         voice.fade_out,
-        source,
+        voice.source,
         voice.gain,
         n,
         numbers[NEXT],
@@ -70,15 +109,13 @@ fn new_event(stated: Stated, voice: Voice, id: EventId) -> Event
     ensures { result ≡ new_event stated.from stated.until voice.fade_in voice.fade_out voice.fade_ease voice.source
         voice.gain id.0 }
 {
-    let fade_ease = voice.fade_ease;
-    let source = voice.source;
     Event::new(
         stated.from,
         stated.until,
         voice.fade_in,
         voice.fade_out,
-        fade_ease,
-        source,
+        voice.fade_ease,
+        voice.source,
         voice.gain,
         id,
     )
@@ -104,10 +141,9 @@ fn push_to(
         voice.fade_ease voice.fade_in voice.fade_out voice.source voice.gain }
     ensures refused { Refuses result.answer → after times.new levels.new marks.new numbers.new ≡ before times.old levels.old marks.old numbers.old }
 {
-    let refusal = refusal_of(numbers, stated, voice);
-    if refusal != 0 {
+    if let Some(refusal) = refusal_of(numbers, stated, voice) {
         return Pushed {
-            answer: Answer::Refused(refusal),
+            answer: Answer::Refused(refusal.number()),
             rise: 0,
         };
     }
@@ -116,11 +152,46 @@ fn push_to(
     let event = new_event(stated, voice, id);
     let rise = push_event(times, levels, marks, numbers, event);
     sized(times, levels, marks, numbers);
-    numbers[NEXT] = std::num::wrapping_add_u64(next, 1);
+    numbers[NEXT] = next.wrapping_add(1);
     Pushed {
         answer: Answer::Number(id),
-        rise: rise,
+        rise,
     }
+}
+
+// Schedules an event whose times are stated in one of the three ways; `end_time` is the duration where that is stated.
+// Answers its number, or the first refusal of 3, 4, 5, 18, 6, 7.
+pub fn push_timed(
+    times: &mut Times,
+    levels: &mut Levels,
+    marks: &mut Marks,
+    numbers: &mut Numbers,
+    timing: Timing,
+    start_time: f64,
+    end_time: f64,
+    fade_ease: Fade,
+    fade_in: f64,
+    fade_out: f64,
+    source: Source,
+    gain: f32,
+) -> Pushed
+    ensures engine { engine_of (after times.new levels.new marks.new numbers.new) ≡ (pushes_told (timed timing) (engine_of (before times.old levels.old marks.old numbers.old))
+        start_time end_time fade_ease fade_in fade_out source gain).sequencer }
+    ensures answer { result.answer ≡ (pushes_told (timed timing) (engine_of (before times.old levels.old marks.old numbers.old))
+        start_time end_time fade_ease fade_in fade_out source gain).answer }
+    ensures rise { result.rise ≡ (pushes_told (timed timing) (engine_of (before times.old levels.old marks.old numbers.old))
+        start_time end_time fade_ease fade_in fade_out source gain).rise }
+    ensures refused { Refuses result.answer → after times.new levels.new marks.new numbers.new ≡ before times.old levels.old marks.old numbers.old }
+{
+    let stated = Stated::new(timing, start_time, end_time, times[CLOCK]);
+    let voice = Voice {
+        fade_ease,
+        fade_in,
+        fade_out,
+        source,
+        gain,
+    };
+    push_to(times, levels, marks, numbers, stated, voice)
 }
 
 // Schedules an event from `start_time` to `end_time`, in seconds on the engine's clock. Answers its number, or the first refusal of 3, 4, 5, 18, 6, 7.
@@ -145,21 +216,20 @@ pub fn push(
         start_time end_time fade_ease fade_in fade_out source gain).rise }
     ensures refused { Refuses result.answer → after times.new levels.new marks.new numbers.new ≡ before times.old levels.old marks.old numbers.old }
 {
-    let stated = Stated {
-        start: start_time,
-        end: end_time,
-        lasts: end_time - start_time,
-        from: start_time,
-        until: end_time,
-    };
-    let voice = Voice {
+    push_timed(
+        times,
+        levels,
+        marks,
+        numbers,
+        Timing::Absolute,
+        start_time,
+        end_time,
         fade_ease,
         fade_in,
         fade_out,
         source,
         gain,
-    };
-    push_to(times, levels, marks, numbers, stated, voice)
+    )
 }
 
 // The same; start and end are relative to the clock, which is added after the checks.
@@ -184,22 +254,20 @@ pub fn push_relative(
         start_time end_time fade_ease fade_in fade_out source gain).rise }
     ensures refused { Refuses result.answer → after times.new levels.new marks.new numbers.new ≡ before times.old levels.old marks.old numbers.old }
 {
-    let clock = times[CLOCK];
-    let stated = Stated {
-        start: start_time,
-        end: end_time,
-        lasts: end_time - start_time,
-        from: start_time + clock,
-        until: end_time + clock,
-    };
-    let voice = Voice {
+    push_timed(
+        times,
+        levels,
+        marks,
+        numbers,
+        Timing::Relative,
+        start_time,
+        end_time,
         fade_ease,
         fade_in,
         fade_out,
         source,
         gain,
-    };
-    push_to(times, levels, marks, numbers, stated, voice)
+    )
 }
 
 // The same; the event ends at `start_time + duration`.
@@ -224,20 +292,18 @@ pub fn push_duration(
         start_time duration fade_ease fade_in fade_out source gain).rise }
     ensures refused { Refuses result.answer → after times.new levels.new marks.new numbers.new ≡ before times.old levels.old marks.old numbers.old }
 {
-    let until = start_time + duration;
-    let stated = Stated {
-        start: start_time,
-        end: duration,
-        lasts: until - start_time,
-        from: start_time,
-        until: until,
-    };
-    let voice = Voice {
+    push_timed(
+        times,
+        levels,
+        marks,
+        numbers,
+        Timing::Duration,
+        start_time,
+        duration,
         fade_ease,
         fade_in,
         fade_out,
         source,
         gain,
-    };
-    push_to(times, levels, marks, numbers, stated, voice)
+    )
 }

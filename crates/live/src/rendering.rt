@@ -17,7 +17,6 @@ use memory::{
 };
 use mixing::Span;
 use refusals::{process_refusal, tick_refusal};
-use runs::least;
 use sequencer::Answer;
 
 // Begins a tick or a block that ends at `end`: those that are due start, and those that have ended are finished.
@@ -64,22 +63,20 @@ fn mix_tick(
     ensures sample { result ≡ (tick_pass order pool.now time (engine_of (before times.now levels.old marks.old numbers.now))).sum }
 {
     sized(times, levels, marks, numbers);
-    let m = least(numbers[SOUNDING] as usize, ROOM);
+    let m = (numbers[SOUNDING] as usize).min(ROOM);
     let mut sum = 0.0f32;
-    let mut k = 0;
-    while k < m {
+    for k in 0..m {
         let slot = ACTIVE + mix_place(order, k, m);
         let event = event_at(times, levels, marks, numbers, slot);
-        sum = sum + mixing::tick_sample(event, time, pool);
+        sum += mixing::tick_sample(event, time, pool);
         let event = mixing::after_tick(event);
-        let unit = event.unit;
-        put_unit(times, levels, marks, numbers, slot, unit);
-        k = k + 1;
+        put_unit(times, levels, marks, numbers, slot, event.unit);
     }
     sum
 }
 
 // Adds the sounding events to `mix`, one channel of a block. Answers how its places were computed.
+// (The loop of `mix_tick` with another sum: one loop that takes a closure would be no plainer.)
 fn mix_block(
     times: &Times,
     levels: &mut Levels,
@@ -97,16 +94,14 @@ fn mix_block(
     ensures places { result ≡ (places_pass order (as_span span) (engine_of (before times.now levels.old marks.old numbers.now))).sum }
 {
     sized(times, levels, marks, numbers);
-    let m = least(numbers[SOUNDING] as usize, ROOM);
+    let m = (numbers[SOUNDING] as usize).min(ROOM);
     let mut places = Placings::new();
-    let mut k = 0;
-    while k < m {
+    for k in 0..m {
         let slot = ACTIVE + mix_place(order, k, m);
         let event = event_at(times, levels, marks, numbers, slot);
         let unit = mixing::process_event(event, span, pool, mix);
         put_unit(times, levels, marks, numbers, slot, unit);
         places = mixing::count_places(event, span, places);
-        k = k + 1;
     }
     places
 }
@@ -154,9 +149,9 @@ pub fn tick(
 {
     let time = times[CLOCK];
     let duration = times[DURATION];
-    let refusal = tick_refusal(out.len(), numbers[CHANNELS] as usize, time, duration);
-    if refusal != 0 {
-        return Answer::Refused(refusal);
+    let channels = numbers[CHANNELS] as usize;
+    if let Some(refusal) = tick_refusal(out.len(), channels, time, duration) {
+        return Answer::Refused(refusal.number());
     }
     advance(times, levels, marks, numbers, time + duration);
     let sum = mix_tick(times, levels, marks, numbers, order, time, pool);
@@ -170,13 +165,12 @@ fn span_of(times: &Times, size: usize) -> Span
 {
     let clock = times[CLOCK];
     let duration = times[DURATION];
-    let upto = clock + duration * std::num::nearest_u64_to_f64(size as u64);
     Span {
-        size: size,
-        clock: clock,
-        upto: upto,
+        size,
+        clock,
+        upto: clock + duration * std::num::nearest_u64_to_f64(size as u64),
         rate: times[RATE],
-        duration: duration,
+        duration,
     }
 }
 
@@ -200,9 +194,8 @@ pub fn process(
 {
     let span = span_of(times, size);
     let channels = numbers[CHANNELS] as usize;
-    let refusal = process_refusal(size, out.len(), channels, span.clock, span.duration);
-    if refusal != 0 {
-        return Answer::Refused(refusal);
+    if let Some(refusal) = process_refusal(size, out.len(), channels, span.clock, span.duration) {
+        return Answer::Refused(refusal.number());
     }
     advance(times, levels, marks, numbers, span.upto);
     let w = mixing::cleared_places(size);

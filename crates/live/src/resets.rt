@@ -11,7 +11,6 @@ use memory::{
     THRESHOLD, Times, WAITING, sized,
 };
 use refusals::rate_refusal;
-use runs::least;
 use sequencer::Answer;
 
 // Every event is let go, and no edit remains.
@@ -20,11 +19,11 @@ fn let_all_go(times: &Times, levels: &Levels, marks: &Marks, numbers: &mut Numbe
         ≡ emptied_lists (engine_of (before times.now levels.now marks.now numbers.old)) (gone_all (engine_of (before times.now levels.now marks.now numbers.old))) }
 {
     sized(times, levels, marks, numbers);
-    let past = least(numbers[FINISHED] as usize, ROOM);
-    let waiting = least(numbers[WAITING] as usize, ROOM);
-    let sounding = least(numbers[SOUNDING] as usize, ROOM);
+    let past = (numbers[FINISHED] as usize).min(ROOM);
+    let waiting = (numbers[WAITING] as usize).min(ROOM);
+    let sounding = (numbers[SOUNDING] as usize).min(ROOM);
     let n = past + (waiting + sounding);
-    numbers[LET_GO] = std::num::wrapping_add_u64(numbers[LET_GO], n as u64);
+    numbers[LET_GO] = numbers[LET_GO].wrapping_add(n as u64);
     numbers[WAITING] = 0;
     numbers[SOUNDING] = 0;
     numbers[FINISHED] = 0;
@@ -35,9 +34,8 @@ fn let_all_go(times: &Times, levels: &Levels, marks: &Marks, numbers: &mut Numbe
 fn start_over(times: &mut Times)
     ensures { times.new ≡ slice_set (slice_set times.old 3072 zeroᶠ) 3073 -∞ }
 {
-    let top: f64 = 1.0 / 0.0;
     times[CLOCK] = 0.0;
-    times[THRESHOLD] = -top;
+    times[THRESHOLD] = f64::NEG_INFINITY;
 }
 
 // All: everything waits again, from its beginning, and stored edits remain. None: everything is let go, and no edit remains.
@@ -68,18 +66,16 @@ pub fn set_sample_rate(
     ensures answer { result ≡ (rates (engine_of (before times.old levels.old marks.old numbers.old)) rate).answer }
     ensures refused { Refuses result → after times.new levels.new marks.new numbers.new ≡ before times.old levels.old marks.old numbers.old }
 {
-    let refusal = rate_refusal(rate);
-    if refusal != 0 {
-        return Answer::Refused(refusal);
+    if let Some(refusal) = rate_refusal(rate) {
+        return Answer::Refused(refusal.number());
     }
     if times[RATE] == rate {
         return Answer::Done;
     }
     all_to_ready(times, levels, marks, numbers);
     sized(times, levels, marks, numbers);
-    let top: f64 = 1.0 / 0.0;
     times[RATE] = rate;
     times[DURATION] = 1.0 / rate;
-    times[THRESHOLD] = -top;
+    times[THRESHOLD] = f64::NEG_INFINITY;
     Answer::Done
 }

@@ -14,7 +14,6 @@ use Rattle.sequencer.specs.declared.Answer.{Answer}
 use Rattle.memory.specs.Memory.{Cells, engine_of}
 use Rattle.memory.specs.Clock.{channels_in}
 use Rattle.tape.specs.declared.reader.Call.{Call}
-use Rattle.apply.specs.declared.Applied.{Applied}
 use Rattle.apply.specs.Applying.{refusal_of, silent_of, sounding_of, applied_to, applied_out}
 use Rattle.record_output.specs.declared.Left.{Left}
 use Rattle.live_apply.specs.Leaving.{answered_left, sound_left, left_of}

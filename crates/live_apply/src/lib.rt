@@ -2,16 +2,17 @@
 #![tactic(auto)]
 
 ghost use Rattle.std.specs.Prelude.{◌≡◌};
-ghost use Rattle.ledger.specs.Calls.{absolute, relative, by_duration, absolute_end, relative_end};
+ghost use Rattle.ledger.specs.Calls.{absolute_end, relative_end};
 ghost use Rattle.sequencer.specs.Edits.{edits};
 ghost use Rattle.memory.specs.Memory.{before, after, engine_of};
 ghost use Rattle.apply.specs.Applying.{refusal_of, ticking, ticking_out, processing, processing_out, pushed, applied_to, applied_out};
+ghost use Rattle.live.specs.CallContracts.{timed};
 ghost use Rattle.live_apply.specs.Leaving.{answered_left, sound_left, left_of};
 
 use event::MixOrder;
+use live::Timing;
 use memory::{CHANNELS, Levels, Marks, Numbers, Times};
 use record_output::Left;
-use runs::least;
 use sequencer::Answer;
 use tape::reader::{Call, EditRecord, PushRecord};
 
@@ -21,12 +22,7 @@ pub fn refusal(answer: Answer) -> u64
 {
     match answer {
         Answer::Refused(n) => n,
-        Answer::Number(_) => 0,
-        Answer::Applied => 0,
-        Answer::Past => 0,
-        Answer::Stored => 0,
-        Answer::Done => 0,
-        Answer::Rendered(_) => 0,
+        _ => 0,
     }
 }
 
@@ -34,11 +30,10 @@ pub fn refusal(answer: Answer) -> u64
 fn silent(kind: u8, answer: Answer) -> Left
     ensures { result ≡ answered_left kind (refusal_of answer) }
 {
-    let n = refusal(answer);
     Left {
         any: true,
         kind,
-        refusal: n,
+        refusal: refusal(answer),
         channels: 0,
         each: 0,
     }
@@ -48,22 +43,14 @@ fn silent(kind: u8, answer: Answer) -> Left
 fn sounding(kind: u8, answer: Answer, channels: usize, each: usize) -> Left
     ensures { result ≡ sound_left kind (refusal_of answer) channels each }
 {
-    let n = refusal(answer);
-    if n != 0 {
-        return Left {
-            any: true,
-            kind,
-            refusal: n,
-            channels: 0,
-            each: 0,
-        };
+    let left = silent(kind, answer);
+    if left.refusal != 0 {
+        return left;
     }
     Left {
-        any: true,
-        kind,
-        refusal: 0,
         channels,
         each,
+        ..left
     }
 }
 
@@ -82,15 +69,14 @@ fn tick(
     ensures answer { result ≡ left_of kind (ticking pool.now (engine_of (before times.old levels.old marks.old numbers.old)) samples.old) }
     ensures samples { samples.new ≡ ticking_out pool.now (engine_of (before times.old levels.old marks.old numbers.old)) samples.old }
 {
-    let channels = least(numbers[CHANNELS] as usize, 8);
-    let n = least(channels, samples.len());
-    let order = MixOrder::Forward;
+    let channels = (numbers[CHANNELS] as usize).min(8);
+    let n = channels.min(samples.len());
     let answer = live::tick(
         times,
         levels,
         marks,
         numbers,
-        order,
+        MixOrder::Forward,
         pool,
         &mut samples[..n],
     );
@@ -114,16 +100,15 @@ fn process(
     ensures samples { samples.new
         ≡ processing_out pool.now size (engine_of (before times.old levels.old marks.old numbers.old)) samples.old }
 {
-    let channels = least(numbers[CHANNELS] as usize, 8);
-    let n = least(64 * channels, samples.len());
-    let order = MixOrder::Forward;
+    let channels = (numbers[CHANNELS] as usize).min(8);
+    let n = (64 * channels).min(samples.len());
     let each = size as usize;
     let answer = live::process(
         times,
         levels,
         marks,
         numbers,
-        order,
+        MixOrder::Forward,
         each,
         pool,
         &mut samples[..n],
@@ -131,91 +116,34 @@ fn process(
     sounding(kind, answer, channels, each)
 }
 
-// A record of kind 1: a push with its times on the clock.
+// A record of kind 1, 2 or 3: a push that states its times in that way.
 pub fn push(
     times: &mut Times,
     levels: &mut Levels,
     marks: &mut Marks,
     numbers: &mut Numbers,
+    timing: Timing,
     p: PushRecord,
 ) -> Answer
-    ensures engine { engine_of (after times.new levels.new marks.new numbers.new) ≡ (pushed absolute (engine_of (before times.old levels.old marks.old numbers.old)) p).sequencer }
-    ensures answer { result ≡ (pushed absolute (engine_of (before times.old levels.old marks.old numbers.old)) p).answer }
+    ensures engine { engine_of (after times.new levels.new marks.new numbers.new)
+        ≡ (pushed (timed timing) (engine_of (before times.old levels.old marks.old numbers.old)) p).sequencer }
+    ensures answer { result ≡ (pushed (timed timing) (engine_of (before times.old levels.old marks.old numbers.old)) p).answer }
 {
-    let ease = p.fade_ease;
-    let source = p.source;
-    let r = live::push(
+    let pushed = live::push_timed(
         times,
         levels,
         marks,
         numbers,
+        timing,
         p.start_time,
         p.end_time,
-        ease,
+        p.fade_ease,
         p.fade_in,
         p.fade_out,
-        source,
+        p.source,
         p.gain,
     );
-    r.answer
-}
-
-// A record of kind 2: the times are relative to the clock.
-pub fn push_relative(
-    times: &mut Times,
-    levels: &mut Levels,
-    marks: &mut Marks,
-    numbers: &mut Numbers,
-    p: PushRecord,
-) -> Answer
-    ensures engine { engine_of (after times.new levels.new marks.new numbers.new) ≡ (pushed relative (engine_of (before times.old levels.old marks.old numbers.old)) p).sequencer }
-    ensures answer { result ≡ (pushed relative (engine_of (before times.old levels.old marks.old numbers.old)) p).answer }
-{
-    let ease = p.fade_ease;
-    let source = p.source;
-    let r = live::push_relative(
-        times,
-        levels,
-        marks,
-        numbers,
-        p.start_time,
-        p.end_time,
-        ease,
-        p.fade_in,
-        p.fade_out,
-        source,
-        p.gain,
-    );
-    r.answer
-}
-
-// A record of kind 3: the second time is the duration.
-pub fn push_duration(
-    times: &mut Times,
-    levels: &mut Levels,
-    marks: &mut Marks,
-    numbers: &mut Numbers,
-    p: PushRecord,
-) -> Answer
-    ensures engine { engine_of (after times.new levels.new marks.new numbers.new) ≡ (pushed by_duration (engine_of (before times.old levels.old marks.old numbers.old)) p).sequencer }
-    ensures answer { result ≡ (pushed by_duration (engine_of (before times.old levels.old marks.old numbers.old)) p).answer }
-{
-    let ease = p.fade_ease;
-    let source = p.source;
-    let r = live::push_duration(
-        times,
-        levels,
-        marks,
-        numbers,
-        p.start_time,
-        p.end_time,
-        ease,
-        p.fade_in,
-        p.fade_out,
-        source,
-        p.gain,
-    );
-    r.answer
+    pushed.answer
 }
 
 // A record of kind 4: an edit with its end on the clock.
@@ -230,8 +158,7 @@ pub fn edit(
         ≡ (edits absolute_end (engine_of (before times.old levels.now marks.now numbers.old)) p.id p.end_time p.fade_out).sequencer }
     ensures answer { result ≡ (edits absolute_end (engine_of (before times.old levels.now marks.now numbers.old)) p.id p.end_time p.fade_out).answer }
 {
-    let id = p.id;
-    live::edit(times, levels, marks, numbers, id, p.end_time, p.fade_out)
+    live::edit(times, levels, marks, numbers, p.id, p.end_time, p.fade_out)
 }
 
 // A record of kind 5: the end is relative to the clock.
@@ -246,8 +173,7 @@ pub fn edit_relative(
         ≡ (edits relative_end (engine_of (before times.old levels.now marks.now numbers.old)) p.id p.end_time p.fade_out).sequencer }
     ensures answer { result ≡ (edits relative_end (engine_of (before times.old levels.now marks.now numbers.old)) p.id p.end_time p.fade_out).answer }
 {
-    let id = p.id;
-    live::edit_relative(times, levels, marks, numbers, id, p.end_time, p.fade_out)
+    live::edit_relative(times, levels, marks, numbers, p.id, p.end_time, p.fade_out)
 }
 
 // A record's call. The samples of a tick or block go to the front of `samples`, which has room for 64 of 8 channels.
@@ -276,9 +202,18 @@ pub fn carry_out(
             let answer = live::create(times, levels, marks, numbers, n, mode, first);
             silent(kind, answer)
         }
-        Call::Push(p) => silent(kind, push(times, levels, marks, numbers, p)),
-        Call::PushRelative(p) => silent(kind, push_relative(times, levels, marks, numbers, p)),
-        Call::PushDuration(p) => silent(kind, push_duration(times, levels, marks, numbers, p)),
+        Call::Push(p) => {
+            let answer = push(times, levels, marks, numbers, Timing::Absolute, p);
+            silent(kind, answer)
+        }
+        Call::PushRelative(p) => {
+            let answer = push(times, levels, marks, numbers, Timing::Relative, p);
+            silent(kind, answer)
+        }
+        Call::PushDuration(p) => {
+            let answer = push(times, levels, marks, numbers, Timing::Duration, p);
+            silent(kind, answer)
+        }
         Call::Edit(p) => silent(kind, edit(times, levels, marks, numbers, p)),
         Call::EditRelative(p) => silent(kind, edit_relative(times, levels, marks, numbers, p)),
         Call::Tick => tick(times, levels, marks, numbers, kind, pool, samples),

@@ -1,10 +1,12 @@
 -- Document 02, Paper 11: what is right and what is not, for one window of Monday from 9 to 12 (540 to 720), by hand.
-use Rattle.std.specs.Prelude.{◌≡◌, refl, ℕ, zero, suc, ◌+◌, ◌*◌, ◌≤◌, ◌<◌, get_or}
+use Rattle.std.specs.Prelude.{◌≡◌, refl, ℕ, zero, suc, ◌+◌, ◌*◌, ◌≤◌, ◌<◌, get_or, Ok, Err}
 use Rattle.std.proofs.Common.{sym, ap, ⊎_elim, arith}
 use mathlib.Core.List.Memᴰ
 use mathlib.Core.List.{List, [], ◌∷◌, Memᴰ}
 use Rattle.lodge.specs.declared.Window.{Window}
-use Rattle.lodge.specs.declared.Answer.TheVariants.{At, Refused}
+use Rattle.lodge.specs.declared.Refusal.{Refusal}
+use Rattle.lodge.specs.declared.Refusal.TheVariants.{Improper, TooLong}
+use Rattle.lodge.specs.Refusals.{Answer}
 use Rattle.lodge.specs.Hours.{none, Lawful, Proper, Fits, Short, Right}
 use Rattle.lodge.specs.Cases.{window, hours}
 
@@ -125,58 +127,62 @@ asked minute n a b = record {
 long_enough : Short morning 60 → ⊥
 long_enough s = let k = s (window 540 720) (Memᴰ.head refl) in omega arith
 
-no_refusal : (t r : ℕ) → At t ≡ Refused r → ⊥
-no_refusal t r e = let z : ◌≡◌ {A = ℕ} 0 1 = cc in omega arith
+-- no minute has a refusal's number
+no_refusal : (n : ℕ) → 0 ≡ n + 1 → ⊥
+no_refusal n e = omega arith
 
-same : (t u : ℕ) → At t ≡ At u → t ≡ u
+no_minute : (t : ℕ) (r : Refusal) → ◌≡◌ {A = Answer} (Err r) (Ok t) → ⊥
+no_minute t r e = let z : ◌≡◌ {A = ℕ} 0 1 = cc in omega arith
+
+same : (t u : ℕ) → ◌≡◌ {A = Answer} (Ok t) (Ok u) → t ≡ u
 same t u e = cc
 
 -- at once, and in the next week: from 541 on 180 minutes fit again at 10,080 + 540
-right-540 : Right (hours morning) 540 180 (At 540)
+right-540 : Right (hours morning) 540 180 (Ok 540)
 right-540 = record {
   wrong = λ x. absurd (x (asked 540 180 (omega arith) (omega arith)));
-  proper = λ _ e. no_refusal 540 21 e;
+  proper = λ _ e. no_refusal 20 e;
   too_long = λ _ s. absurd (short-not s);
-  short = λ e. absurd (no_refusal 540 22 e);
+  short = λ e. absurd (no_refusal 21 e);
   never = λ _ x. absurd (x 540 (fits-at 0 180 540 (omega arith) (omega arith)));
-  nowhere = λ e. absurd (no_refusal 540 22 e);
+  nowhere = λ e. absurd (no_refusal 21 e);
   answers = λ _ _. (540, refl);
   later = λ t e. let k = same 540 t e in omega arith;
   fits = λ t e. rw (sym (same 540 t e)) (fits-at 0 180 540 (omega arith) (omega arith));
   earliest = λ t e u a f. let k = same 540 t e in omega arith;
 }
 
-right-10620 : Right (hours morning) 541 180 (At 10620)
+right-10620 : Right (hours morning) 541 180 (Ok 10620)
 right-10620 = record {
   wrong = λ x. absurd (x (asked 541 180 (omega arith) (omega arith)));
-  proper = λ _ e. no_refusal 10620 21 e;
+  proper = λ _ e. no_refusal 20 e;
   too_long = λ _ s. absurd (short-not s);
-  short = λ e. absurd (no_refusal 10620 22 e);
+  short = λ e. absurd (no_refusal 21 e);
   never = λ _ x. absurd (x 10620 (fits-at 1 180 10620 (omega arith) (omega arith)));
-  nowhere = λ e. absurd (no_refusal 10620 22 e);
+  nowhere = λ e. absurd (no_refusal 21 e);
   answers = λ _ _. (10620, refl);
   later = λ t e. let k = same 10620 t e in omega arith;
   fits = λ t e. rw (sym (same 10620 t e)) (fits-at 1 180 10620 (omega arith) (omega arith));
   earliest = λ t e u a f. let k = same 10620 t e in let w = within 180 u f in omega arith;
 }
 
--- no answer at all, 21 and 22 where 60 minutes fit
-refused-not : (Right (hours morning) 0 60 (Refused 0) → ⊥) × (Right (hours morning) 0 60 (Refused 21) → ⊥) × (Right (hours morning) 0 60 (Refused 22) → ⊥)
+-- any refusal, 21 and 22 where 60 minutes fit
+refused-not : ((r : Refusal) → Right (hours morning) 0 60 (Err r) → ⊥) × (Right (hours morning) 0 60 (Err Improper) → ⊥) × (Right (hours morning) 0 60 (Err TooLong) → ⊥)
 refused-not = (
-  (λ r. let k = r.answers (asked 0 60 (omega arith) (omega arith)) long_enough in no_refusal k.0 0 (sym k.1)),
+  (λ q r. let k = r.answers (asked 0 60 (omega arith) (omega arith)) long_enough in no_minute k.0 q k.1),
   (λ r. r.proper (asked 0 60 (omega arith) (omega arith)) refl),
   (λ r. long_enough (r.short refl)),
 )
 
 -- a minute where 21 or 22 is asked
-minute_not : (Right (hours morning) 0 0 (At 540) → ⊥) × (Right (hours morning) 0 181 (At 540) → ⊥)
+minute_not : (Right (hours morning) 0 0 (Ok 540) → ⊥) × (Right (hours morning) 0 181 (Ok 540) → ⊥)
 minute_not = (
-  (λ r. no_refusal 540 21 (r.wrong (λ p. let k = p.some in omega arith))),
-  (λ r. no_refusal 540 22 (r.too_long (asked 0 181 (omega arith) (omega arith)) short)),
+  (λ r. no_refusal 20 (r.wrong (λ p. let k = p.some in omega arith))),
+  (λ r. no_refusal 21 (r.too_long (asked 0 181 (omega arith) (omega arith)) short)),
 )
 
 -- before the given minute, where 60 minutes do not fit, and a minute late
-other_minutes_not : (Right (hours morning) 541 60 (At 540) → ⊥) × (Right (hours morning) 0 60 (At 539) → ⊥) × (Right (hours morning) 0 60 (At 541) → ⊥)
+other_minutes_not : (Right (hours morning) 541 60 (Ok 540) → ⊥) × (Right (hours morning) 0 60 (Ok 539) → ⊥) × (Right (hours morning) 0 60 (Ok 541) → ⊥)
 other_minutes_not = (
   (λ r. let k = r.later 540 refl in omega arith),
   (λ r. let k = within 60 539 (r.fits 539 refl) in omega arith),

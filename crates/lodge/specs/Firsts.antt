@@ -1,12 +1,9 @@
 -- The facts behind Theorem.antt: what `orderly` and `first_from` say of each window. Assumes nothing.
-use Rattle.std.specs.Prelude.{◌≡◌, refl, Bool, true, false, ◌&&◌, cond, ℕ, zero, suc, ◌+◌, ◌-◌, ◌*◌, max, ◌≤◌, ◌<◌, leb, ltb, length, get_or}
-use Rattle.std.proofs.Common.{sym, ap, ◌∙◌, subst, true≢false, ⊎_elim, arith, ltb-true, leb-true, leb-false, lt-ltb, le-leb}
+use Rattle.std.specs.Prelude.{◌≡◌, refl, Bool, true, false, ◌&&◌, cond, ℕ, zero, suc, ◌+◌, max, ◌≤◌, ◌<◌, leb, ltb, length, get_or, Some, None}
+use Rattle.std.proofs.Common.{sym, ap, subst, true≢false, ⊎_elim, arith, ltb-true, leb-true, leb-false, lt-ltb, le-leb}
 use mathlib.Core.List.Memᴰ
 use mathlib.Core.List.{List, [], ◌∷◌, Memᴰ}
-use Rattle.std.proofs.lemmas.Bool.{lt-leb}
 use Rattle.lodge.specs.declared.Window.{Window}
-use Rattle.lodge.specs.declared.Found.{Found}
-use Rattle.lodge.specs.declared.Found.TheVariants as found
 use Rattle.lodge.specs.Search.{orderly, first_from}
 use Rattle.lodge.specs.Hours.{none, Lawful}
 
@@ -96,13 +93,13 @@ pub record Room (from n t : ℕ) (ws : List Window) : Type 0 where
   pub open_still : t + n ≤ window.closes
 
 -- what is found has room
-pub found-room : (from n : ℕ) (ws : List Window) (t : ℕ) → first_from from n ws ≡ found.At t → Room from n t ws
+pub found-room : (from n : ℕ) (ws : List Window) (t : ℕ) → first_from from n ws ≡ Some t → Room from n t ws
 unfolding first_from
 found-room from n [] t e = let z : ◌≡◌ {A = ℕ} 0 1 = cc in absurd (omega arith)
 found-room from n (w ∷ ws) t e = go (leb (max w.opens from + n) w.closes) refl e (found-room from n ws t)
   where
-    go : (b : Bool) → leb (max w.opens from + n) w.closes ≡ b → cond b (found.At (max w.opens from)) (first_from from n ws) ≡ found.At t
-        → (first_from from n ws ≡ found.At t → Room from n t ws) → Room from n t (w ∷ ws)
+    go : (b : Bool) → leb (max w.opens from + n) w.closes ≡ b → cond b (Some (max w.opens from)) (first_from from n ws) ≡ Some t
+        → (first_from from n ws ≡ Some t → Room from n t ws) → Room from n t (w ∷ ws)
     go true q e r =
         let k : max w.opens from ≡ t = cc in
         let l : max w.opens from + n ≤ w.closes = leb-true (max w.opens from + n) w.closes q in
@@ -112,7 +109,7 @@ found-room from n (w ∷ ws) t e = go (leb (max w.opens from + n) w.closes) refl
         record { window = s.window; given = Memᴰ.tail s.given; opened = s.opened; from_on = s.from_on; open_still = s.open_still }
 
 -- and no window with room has it earlier
-pub found-least : (last from n : ℕ) (ws : List Window) (t : ℕ) → orderly last ws ≡ true → first_from from n ws ≡ found.At t
+pub found-least : (last from n : ℕ) (ws : List Window) (t : ℕ) → orderly last ws ≡ true → first_from from n ws ≡ Some t
     → (v : Window) → Memᴰ v ws → max v.opens from + n ≤ v.closes → t ≤ max v.opens from
 unfolding first_from
 found-least last from n [] t o e v m k = absurd (Memᴰ.not-nil m)
@@ -120,9 +117,9 @@ found-least last from n (w ∷ ws) t o e v m k =
     let p = parts last w ws o in
     go (leb (max w.opens from + n) w.closes) refl e p (found-least w.closes from n ws t p.rest)
   where
-    go : (b : Bool) → leb (max w.opens from + n) w.closes ≡ b → cond b (found.At (max w.opens from)) (first_from from n ws) ≡ found.At t
+    go : (b : Bool) → leb (max w.opens from + n) w.closes ≡ b → cond b (Some (max w.opens from)) (first_from from n ws) ≡ Some t
         → Parts last w ws
-        → (first_from from n ws ≡ found.At t → (v : Window) → Memᴰ v ws → max v.opens from + n ≤ v.closes → t ≤ max v.opens from)
+        → (first_from from n ws ≡ Some t → (v : Window) → Memᴰ v ws → max v.opens from + n ≤ v.closes → t ≤ max v.opens from)
         → t ≤ max v.opens from
     go true q e p r =
         let z : max w.opens from ≡ t = cc in
@@ -141,13 +138,13 @@ found-least last from n (w ∷ ws) t o e v m k =
         (Memᴰ.cases_cons m)
 
 -- nothing found: no window has room
-pub none_found : (from n : ℕ) (ws : List Window) → first_from from n ws ≡ found.Nothing → (v : Window) → Memᴰ v ws → v.closes < max v.opens from + n
+pub none_found : (from n : ℕ) (ws : List Window) → first_from from n ws ≡ None → (v : Window) → Memᴰ v ws → v.closes < max v.opens from + n
 unfolding first_from
 none_found from n [] e v m = absurd (Memᴰ.not-nil m)
 none_found from n (w ∷ ws) e v m = go (leb (max w.opens from + n) w.closes) refl e (none_found from n ws)
   where
-    go : (b : Bool) → leb (max w.opens from + n) w.closes ≡ b → cond b (found.At (max w.opens from)) (first_from from n ws) ≡ found.Nothing
-        → (first_from from n ws ≡ found.Nothing → (v : Window) → Memᴰ v ws → v.closes < max v.opens from + n)
+    go : (b : Bool) → leb (max w.opens from + n) w.closes ≡ b → cond b (Some (max w.opens from)) (first_from from n ws) ≡ None
+        → (first_from from n ws ≡ None → (v : Window) → Memᴰ v ws → v.closes < max v.opens from + n)
         → v.closes < max v.opens from + n
     go true q e r = let z : ◌≡◌ {A = ℕ} 0 1 = cc in absurd (omega arith)
     go false q e r =

@@ -1,11 +1,10 @@
 -- Document 02, Paper 11, by arithmetic over all weeks: what an answer is to be.
 -- Theorem.antt proves it of every answer of the code, and OneAnswer.antt that no other answer meets it.
-use Rattle.std.specs.Prelude.{◌≡◌, ℕ, ◌+◌, ◌-◌, ◌*◌, ◌^◌, ◌≤◌, ◌<◌, length, get_or, take}
+use Rattle.std.specs.Prelude.{◌≡◌, ℕ, ◌+◌, ◌-◌, ◌*◌, ◌^◌, ◌≤◌, ◌<◌, length, get_or, take, Ok}
 use mathlib.Core.List.{List, Memᴰ}
 use Rattle.lodge.specs.declared.Window.{Window}
 use Rattle.lodge.specs.declared.Hours.{Hours}
-use Rattle.lodge.specs.declared.Answer.{Answer}
-use Rattle.lodge.specs.declared.Answer.TheVariants.{At, Refused}
+use Rattle.lodge.specs.Refusals.{Answer, refusal_number}
 
 abbrev pub in_use : Hours → List Window
 in_use h = take h.count h.windows
@@ -42,17 +41,17 @@ Short ws n = (w : Window) → Memᴰ w ws → w.closes - w.opens < n
 -- an answer, and what is asked of it
 pub record Right (h : Hours) (minute n : ℕ) (a : Answer) : Type 0 where
   -- 21 exactly where something is wrong
-  pub wrong : (Proper h minute n → ⊥) → a ≡ Refused 21
-  pub proper : Proper h minute n → a ≡ Refused 21 → ⊥
+  pub wrong : (Proper h minute n → ⊥) → refusal_number a ≡ 21
+  pub proper : Proper h minute n → refusal_number a ≡ 21 → ⊥
   -- "where these pass, 22 is given if and only if every window is shorter than the length"
-  pub too_long : Proper h minute n → Short (in_use h) n → a ≡ Refused 22
-  pub short : a ≡ Refused 22 → Short (in_use h) n
+  pub too_long : Proper h minute n → Short (in_use h) n → refusal_number a ≡ 22
+  pub short : refusal_number a ≡ 22 → Short (in_use h) n
   -- so exactly where the length fits at no minute at all
-  pub never : Proper h minute n → ((t : ℕ) → Fits (in_use h) n t → ⊥) → a ≡ Refused 22
-  pub nowhere : a ≡ Refused 22 → (t : ℕ) → Fits (in_use h) n t → ⊥
+  pub never : Proper h minute n → ((t : ℕ) → Fits (in_use h) n t → ⊥) → refusal_number a ≡ 22
+  pub nowhere : refusal_number a ≡ 22 → (t : ℕ) → Fits (in_use h) n t → ⊥
   -- where neither applies, a minute is answered
-  pub answers : Proper h minute n → (Short (in_use h) n → ⊥) → (t : ℕ) × (a ≡ At t)
+  pub answers : Proper h minute n → (Short (in_use h) n → ⊥) → (t : ℕ) × (a ≡ Ok t)
   -- "the earliest minute, not before the given one, at which the whole length fits in one window"
-  pub later : (t : ℕ) → a ≡ At t → minute ≤ t
-  pub fits : (t : ℕ) → a ≡ At t → Fits (in_use h) n t
-  pub earliest : (t : ℕ) → a ≡ At t → (u : ℕ) → minute ≤ u → Fits (in_use h) n u → t ≤ u
+  pub later : (t : ℕ) → a ≡ Ok t → minute ≤ t
+  pub fits : (t : ℕ) → a ≡ Ok t → Fits (in_use h) n t
+  pub earliest : (t : ℕ) → a ≡ Ok t → (u : ℕ) → minute ≤ u → Fits (in_use h) n u → t ≤ u

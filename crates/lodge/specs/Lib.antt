@@ -1,3 +1,4 @@
+pub mod Refusals
 pub mod Hours
 pub mod Search
 pub mod Firsts

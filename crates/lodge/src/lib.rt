@@ -2,8 +2,8 @@
 // Minutes count from a Monday 00:00, and every week of 10,080 has the same windows.
 #![tactic(auto)]
 
-ghost use Rattle.std.specs.Prelude.{◌≡◌, ◌≤◌, max};
-ghost use Rattle.lodge.specs.Hours.{in_use};
+ghost use Rattle.std.specs.Prelude.{◌≡◌};
+ghost use Rattle.lodge.specs.Refusals.{number_of};
 ghost use Rattle.lodge.specs.Search.{orderly, first_from, answered};
 
 // Open from `opens` up to but without `closes`, both minutes of the week.
@@ -13,106 +13,76 @@ pub struct Window {
     pub closes: u64,
 }
 
-// The first `count` windows are in use.
+// The first `count` windows are in use. An array with a count, as document 01 has it: no memory is allocated.
 #[derive(Clone, Copy)]
 pub struct Hours {
     pub windows: [Window; 16],
     pub count: usize,
 }
 
-// A minute, or a refusal: 21 or 22.
-#[derive(Clone, Copy)]
-pub enum Answer {
-    At(u64),
-    Refused(u64),
+// Why no minute is answered: the hours, the minute or the length are not proper, or the length fits in no window.
+#[derive(Clone, Copy, PartialEq, Eq)]
+pub enum Refusal {
+    Improper,
+    TooLong,
 }
 
-#[derive(Clone, Copy)]
-pub enum Found {
-    At(u64),
-    Nothing,
+impl Refusal {
+    // The paper's number.
+    pub fn number(self) -> u64
+        ensures { result ≡ number_of self }
+    {
+        match self {
+            Refusal::Improper => 21,
+            Refusal::TooLong => 22,
+        }
+    }
 }
 
-fn later(a: u64, b: u64) -> u64
-    ensures { result ≡ max a b }
+// Whether the windows are not empty, end within the week, and follow one another.
+fn is_orderly(windows: &[Window]) -> bool
+    ensures { result ≡ orderly 0 windows.now }
 {
-    if a < b { b } else { a }
-}
-
-// Whether the windows in use are not empty, end within the week, and follow one another.
-#[tactic(auto, using(crate::proofs::Scan::late))]
-fn is_orderly(hours: Hours) -> bool
-    requires { hours.count ≤ 16 }
-    ensures { result ≡ orderly 0 (in_use hours) }
-{
-    let n = hours.count;
     let mut last = 0;
-    let mut i = 0;
-    while i < n {
-        let w = hours.windows[i];
-        if w.opens < last {
+    for w in windows {
+        let Window { opens, closes } = *w;
+        if opens < last || closes <= opens || 10080 < closes {
             return false;
         }
-        if w.closes <= w.opens {
-            return false;
-        }
-        if 10080 < w.closes {
-            return false;
-        }
-        last = w.closes;
-        i += 1;
+        last = closes;
     }
     true
 }
 
-// The minute of the week, not before `from`, at which the first window in use that has room for `length` has it.
-fn first_from(hours: Hours, from: u64, length: u64) -> Found
-    requires { hours.count ≤ 16 }
-    ensures { result ≡ first_from from length (in_use hours) }
+// The minute of the week, not before `from`, at which the first window that has room for `length` has it.
+fn first_from(windows: &[Window], from: u64, length: u64) -> Option<u64>
+    ensures { result ≡ first_from from length windows.now }
 {
-    let n = hours.count;
-    let mut i = 0;
-    while i < n {
-        let w = hours.windows[i];
-        let start = later(w.opens, from);
-        if start <= w.closes {
-            if length <= w.closes - start {
-                return Found::At(start);
-            }
+    for w in windows {
+        let start = w.opens.max(from);
+        if start <= w.closes && length <= w.closes - start {
+            return Some(start);
         }
-        i += 1;
     }
-    Found::Nothing
+    None
 }
 
 // Looks in the week of `minute` from there on, then in the next week from its beginning.
-pub fn earliest(hours: Hours, minute: u64, length: u64) -> Answer
+pub fn earliest(hours: Hours, minute: u64, length: u64) -> Result<u64, Refusal>
     ensures { result ≡ answered hours minute length }
 {
-    if 16 < hours.count {
-        return Answer::Refused(21);
+    if 16 < hours.count || 0xffff_ffff < minute || length == 0 {
+        return Err(Refusal::Improper);
     }
-    if 0xffff_ffff < minute {
-        return Answer::Refused(21);
+    let windows = &hours.windows[..hours.count];
+    if !is_orderly(windows) {
+        return Err(Refusal::Improper);
     }
-    if length == 0 {
-        return Answer::Refused(21);
+    let place = minute % 10080;
+    let week = minute - place;
+    if let Some(t) = first_from(windows, place, length) {
+        return Ok(week + t);
     }
-    if is_orderly(hours) {
-        let place = minute % 10080;
-        let week = minute - place;
-        let now = first_from(hours, place, length);
-        match now {
-            Found::At(t) => Answer::At(week + t),
-            Found::Nothing => {
-                let then = first_from(hours, 0, length);
-                match then {
-                    Found::At(t) => Answer::At(week + 10080 + t),
-                    Found::Nothing => Answer::Refused(22),
-                }
-            }
-        }
-    } else {
-        Answer::Refused(21)
-    }
+    let t = first_from(windows, 0, length).ok_or(Refusal::TooLong)?;
+    Ok(week + 10080 + t)
 }

@@ -1,17 +1,13 @@
 -- One of the four times behind the slots, and the count of the stored edits: what the engine is once it is written.
-use Rattle.std.specs.Prelude.{List, ◌≢◌, ◌≡◌, ℕ, ◌+◌, ◌*◌, ◌≤◌, ◌<◌, eqb, Float, set, length}
+use Rattle.std.specs.Prelude.{◌≢◌, ◌≡◌, ℕ, ◌+◌, ◌*◌, ◌≤◌, ◌<◌, eqb, Float, set}
 use Rattle.std.proofs.Math.Path.{refl}
-use Rattle.std.proofs.Common.{ap, ◌∙◌, arith, length-set, get_or-set_same, get_or-set_other}
+use Rattle.std.proofs.Common.{◌∙◌, arith, length-set, get_or-set_same, get_or-set_other}
 use Rattle.std.specs.Float.Ieee.{nan}
 use Rattle.std.proofs.Math.ListN.{get_or}
-use Rattle.event.specs.declared.Event.{Event}
-use Rattle.event.specs.declared.EventId.{EventId}
-use Rattle.event.specs.declared.StoredEdit.{StoredEdit}
-use Rattle.sequencer.specs.declared.Sequencer.{Sequencer}
-use Rattle.sequencer.specs.Parts.{with_edits, with_times, with_rate}
+use Rattle.sequencer.specs.Parts.{with_times, with_rate}
 use Rattle.memory.specs.Rows.{rows, rows_same}
 use Rattle.memory.specs.Memory.{Cells, cells_of, event_at, id_at, edit_at, mode_if, engine_of}
-use Rattle.memory.specs.Laws.{Sized, with_number}
+use Rattle.memory.specs.Laws.{Sized}
 
 abbrev pub with_time : Cells → (p : ℕ) → (x : Float) → Cells
 with_time c p x = cells_of (set c.times p x) c.levels c.marks c.numbers

@@ -1,23 +1,21 @@
 -- The places of the stored edits, and of a sounding event's end and fade-out.
-use Rattle.std.specs.Prelude.{Bool, true, false, cond, List, ◌≢◌, ◌⊎◌, ◌≡◌, refl, ℕ, zero, suc, ◌+◌, ◌*◌, ◌≤◌, ◌<◌, eqb, leb, Float, set, length}
+use Rattle.std.specs.Prelude.{Bool, true, false, cond, List, ◌≢◌, ◌⊎◌, ◌≡◌, refl, ℕ, zero, suc, ◌+◌, ◌*◌, ◌≤◌, ◌<◌, eqb, leb, Float, set}
 use Rattle.std.proofs.Common.{inl, inr, sym, ap₂, ◌∙◌, arith, leb-true, length-set, get_or-set_same, get_or-set_other}
 use Rattle.std.proofs.Math.Path.{ap}
 use Rattle.std.specs.Float.{nan}
 use Rattle.std.proofs.Math.ListN.{get_or}
 use Rattle.event.specs.declared.Event.{Event}
+use Rattle.event.specs.declared.Edit.{Edit}
 use Rattle.event.specs.declared.EventId.{EventId}
 use Rattle.event.specs.declared.StoredEdit.{StoredEdit}
 use Rattle.event.specs.Events.{edited_by}
 use Rattle.event.specs.Blank.{blank}
 use Rattle.lists.specs.declared.EditMap.{EditMap}
-use Rattle.lists.specs.declared.Found.{Found}
-use Rattle.lists.specs.declared.Found.TheVariants.{Nothing}
-use Rattle.lists.specs.declared.FoundEdit.{FoundEdit}
-use Rattle.lists.specs.declared.FoundEdit.TheVariants.{Stored, Missing}
+use Rattle.std.specs.declared.option.Option.{Option}
+use Rattle.std.specs.declared.option.Option.TheVariants.{Some, None}
 use Rattle.lists.specs.Search.{seek}
 use Rattle.lists.specs.Index.{found_id, no_id, is_id}
 use Rattle.lists.specs.Edits.{placed, no_edit, is_edit}
-use Rattle.sequencer.specs.declared.Sequencer.{Sequencer}
 use Rattle.sequencer.specs.Parts.{with_edits, with_sounding}
 use Rattle.sequencer.specs.Edits.{index_of}
 use Rattle.memory.specs.Rows.{rows, rows_get, rows_same, rows-set}
@@ -34,9 +32,9 @@ abbrev pub edits_of : List StoredEdit → ℕ → EditMap
 edits_of xs n = record { items = xs; len = n }
 
 -- the event with the edit that was found
-abbrev pub edited_if : FoundEdit → Event → Event
-edited_if (Stored d) e = edited_by d e
-edited_if Missing e = e
+abbrev pub edited_if : Option Edit → Event → Event
+edited_if (Some d) e = edited_by d e
+edited_if None e = e
 
 -- ---- the places
 
@@ -162,8 +160,8 @@ edits_are c x z =
 -- ---- a number among those of a list
 
 -- its place among the first n of 256 numbers from `first` on. A count above 256 is corrupt: nothing is found
-abbrev pub found_in : List ℕ → (first n k : ℕ) → Found
-found_in l first n k = cond (leb n 256) (seek no_id (is_id (id_of k)) n (rows (λ (i : ℕ). id_of (get_or l i 0)) first 256) 0) Nothing
+abbrev pub found_in : List ℕ → (first n k : ℕ) → Option ℕ
+found_in l first n k = cond (leb n 256) (seek no_id (is_id (id_of k)) n (rows (λ (i : ℕ). id_of (get_or l i 0)) first 256) 0) None
 
 pub sounding_found : (c : Cells) (k : ℕ) → found_in c.numbers 768 (get_or c.numbers 1281 0) k ≡ found_id (index_of (engine_of c)) (id_of k)
 unfolding engine_of found_id
@@ -176,11 +174,11 @@ same_search c k zero i h = refl
 same_search c k (suc f) i h =
     rw (rows_get (id_at c) 1024 256 i no_id (omega arith), rows_get (edit_at c) 1024 256 i no_edit (omega arith), same_search c k f (suc i) (omega arith))
 
-same-found : (c : Cells) (k n : ℕ) → found_in c.numbers 1024 n k ≡ cond (leb n 256) (seek no_edit (is_edit (id_of k)) n (rows (edit_at c) 1024 256) 0) Nothing
+same-found : (c : Cells) (k n : ℕ) → found_in c.numbers 1024 n k ≡ cond (leb n 256) (seek no_edit (is_edit (id_of k)) n (rows (edit_at c) 1024 256) 0) None
 same-found c k n = go (leb n 256) (leb-true n 256)
   where
-    go : (b : Bool) → (b ≡ true → n ≤ 256) → cond b (seek no_id (is_id (id_of k)) n (rows (id_at c) 1024 256) 0) Nothing
-        ≡ cond b (seek no_edit (is_edit (id_of k)) n (rows (edit_at c) 1024 256) 0) Nothing
+    go : (b : Bool) → (b ≡ true → n ≤ 256) → cond b (seek no_id (is_id (id_of k)) n (rows (id_at c) 1024 256) 0) None
+        ≡ cond b (seek no_edit (is_edit (id_of k)) n (rows (edit_at c) 1024 256) 0) None
     go true l = same_search c k n 0 (omega (arith, l refl))
     go false l = refl
 

@@ -1,6 +1,6 @@
 -- What a slot that is written leaves: the other slots, and the rest of the engine.
-use Rattle.std.specs.Prelude.{Bool, List, ◌≢◌, ◌⊎◌, ◌≡◌, refl, ℕ, ◌+◌, ◌*◌, ◌%◌, ◌≤◌, ◌<◌, eqb, leb, Float, set, length}
-use Rattle.std.proofs.Common.{inl, inr, ap₂, ◌∙◌, arith, lt-ltb, length-set, get_or-set_same, get_or-set_other}
+use Rattle.std.specs.Prelude.{List, ◌≢◌, ◌⊎◌, ◌≡◌, refl, ℕ, ◌+◌, ◌*◌, ◌%◌, ◌≤◌, ◌<◌, eqb, leb, Float, set, length}
+use Rattle.std.proofs.Common.{inl, inr, ◌∙◌, arith, lt-ltb, length-set, get_or-set_same, get_or-set_other}
 use Rattle.std.proofs.Math.Path.{sym, ap}
 use Rattle.std.specs.Float.{nan}
 use Rattle.std.proofs.Math.ListN.{get_or}
@@ -10,12 +10,11 @@ use Rattle.event.specs.declared.Fade.{Fade}
 use Rattle.event.specs.declared.Fade.TheVariants.{Power, Smooth}
 use Rattle.event.specs.declared.Source.{Source}
 use Rattle.event.specs.declared.Source.TheVariants.{Held, Ramp, Clip}
-use Rattle.event.specs.declared.StoredEdit.{StoredEdit}
 use Rattle.sequencer.specs.declared.Sequencer.{Sequencer}
 use Rattle.sequencer.specs.Parts.{with_ready, with_active, with_past, with_next, with_let_go, with_sounding}
 use Rattle.memory.specs.Rows.{rows, rows_get, rows_same, rows-set, set4, set4-0, set4-1, set4-2, set4-3, set4_other, length_set4}
 use Rattle.memory.specs.Memory.{Cells, cells_of, ease_if, source_in, event_at, id_at, edit_at, mode_if}
-use Rattle.memory.specs.Memory.{engine_of, ease_mark, source_marks, stored, copied, slot_of, stored_in, copied_in}
+use Rattle.memory.specs.Memory.{engine_of, source_marks, stored, copied, slot_of, stored_in, copied_in}
 
 pub record Sized (c : Cells) : Type 0 where
   pub times : length c.times ≡ 3588

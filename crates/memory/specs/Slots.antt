@@ -1,5 +1,5 @@
 -- A slot that `put_event` or `copy_slot` writes, as the engine has it.
-use Rattle.std.specs.Prelude.{List, ◌≡◌, ℕ, ◌+◌, ◌<◌, get_or, set}
+use Rattle.std.specs.Prelude.{◌≡◌, ℕ, ◌+◌, ◌<◌, get_or, set}
 use Rattle.std.proofs.Common.{sym, ap, ◌∙◌, subst, arith}
 use Rattle.event.specs.declared.Event.{Event}
 use Rattle.event.specs.Blank.{blank}

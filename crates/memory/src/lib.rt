@@ -1,5 +1,6 @@
 // The engine in memory that the caller lends: four arrays of numbers, 63,584 bytes, and where the engine lies in them.
 // Every array of numbers holds an engine (`engine_of`, specs/Memory.antt), so nothing is asked of it.
+// The four travel apart: the C interface lends four arrays, and a struct that owns them would be a copy, one of four `&mut` a clause a field in each call.
 //
 //   an event's slot k   times 4k ..      start, end, fade-in, fade-out
 //                       levels 4k ..     gain; its source's value; the source's two numbers (a level, or a ramp's value and step)

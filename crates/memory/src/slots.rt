@@ -18,23 +18,18 @@ fn ease_of(smooth: bool) -> Fade
 fn source_of(kind: u32, a: f32, b: f32, offset: u32, length: u32) -> Source
     ensures { result ≡ source_in kind a b offset length }
 {
-    if kind == 0 {
-        return Source::Held(a);
+    match kind {
+        0 => Source::Held(a),
+        1 => Source::Ramp(a, b),
+        _ => Source::Clip(offset, length),
     }
-    if kind == 1 {
-        return Source::Ramp(a, b);
-    }
-    Source::Clip(offset, length)
 }
 
 // Of a number that is no slot's, slot 0.
 fn slot_of(k: usize) -> usize
     ensures { (result ≡ slot_of k) × (result < 768) }
 {
-    if k < SLOTS {
-        return k;
-    }
-    0
+    if k < SLOTS { k } else { 0 }
 }
 
 // The event in a slot; of a number that is no slot's, the event in slot 0.
@@ -61,13 +56,12 @@ pub fn event_at(
         value: levels[i + 1],
         place: marks[i + 3],
     };
-    let ease = ease_of(4 <= marks[i]);
     Event {
         start_time: times[i],
         end_time: times[i + 1],
         fade_in: times[i + 2],
         fade_out: times[i + 3],
-        fade_ease: ease,
+        fade_ease: ease_of(4 <= marks[i]),
         unit,
         gain: levels[i],
         id: EventId(numbers[k]),
@@ -125,30 +119,8 @@ fn source_marks(ease: Fade, source: Source) -> SourceMarks
 }
 
 // Four places from i on.
-fn put_times(l: &mut Times, i: usize, a: f64, b: f64, c: f64, d: f64)
-    requires { i + 3 < 3588 }
-    ensures { l.new ≡ set4 l.old i a b c d }
-{
-    l[i] = a;
-    l[i + 1] = b;
-    l[i + 2] = c;
-    l[i + 3] = d;
-}
-
-// Four places from i on.
-fn put_levels(l: &mut Levels, i: usize, a: f32, b: f32, c: f32, d: f32)
-    requires { i + 3 < 3072 }
-    ensures { l.new ≡ set4 l.old i a b c d }
-{
-    l[i] = a;
-    l[i + 1] = b;
-    l[i + 2] = c;
-    l[i + 3] = d;
-}
-
-// Four places from i on.
-fn put_marks(l: &mut Marks, i: usize, a: u32, b: u32, c: u32, d: u32)
-    requires { i + 3 < 3072 }
+fn put4<T: Copy, const N: usize>(l: &mut [T; N], i: usize, a: T, b: T, c: T, d: T)
+    requires { i + 3 < N }
     ensures { l.new ≡ set4 l.old i a b c d }
 {
     l[i] = a;
@@ -169,15 +141,12 @@ fn store(
     ensures { after times.new levels.new marks.new numbers.new ≡ stored (before times.old levels.old marks.old numbers.old) k e }
 {
     let i = 4 * k;
-    let ease = e.fade_ease;
     let unit = e.unit;
-    let source = unit.source;
-    let id = e.id;
-    let s = source_marks(ease, source);
-    put_times(times, i, e.start_time, e.end_time, e.fade_in, e.fade_out);
-    put_levels(levels, i, e.gain, unit.value, s.a, s.b);
-    put_marks(marks, i, s.mark, s.offset, s.length, unit.place);
-    numbers[k] = id.0;
+    let s = source_marks(e.fade_ease, unit.source);
+    put4(times, i, e.start_time, e.end_time, e.fade_in, e.fade_out);
+    put4(levels, i, e.gain, unit.value, s.a, s.b);
+    put4(marks, i, s.mark, s.offset, s.length, unit.place);
+    numbers[k] = e.id.0;
 }
 
 // Puts the event into a slot; a number that is no slot's changes nothing.
@@ -232,17 +201,17 @@ fn copy(
     let end = times[j + 1];
     let fade_in = times[j + 2];
     let fade_out = times[j + 3];
-    put_times(times, i, start, end, fade_in, fade_out);
+    put4(times, i, start, end, fade_in, fade_out);
     let gain = levels[j];
     let value = levels[j + 1];
     let a = levels[j + 2];
     let b = levels[j + 3];
-    put_levels(levels, i, gain, value, a, b);
+    put4(levels, i, gain, value, a, b);
     let mark = marks[j];
     let offset = marks[j + 1];
     let length = marks[j + 2];
     let place = marks[j + 3];
-    put_marks(marks, i, mark, offset, length, place);
+    put4(marks, i, mark, offset, length, place);
     numbers[to] = numbers[from];
 }
 
@@ -257,10 +226,7 @@ pub fn copy_slot(
 )
     ensures { after times.new levels.new marks.new numbers.new ≡ copied_in (before times.old levels.old marks.old numbers.old) to from }
 {
-    if SLOTS <= to {
-        return;
-    }
-    if from < SLOTS {
+    if to < SLOTS && from < SLOTS {
         copy(times, levels, marks, numbers, to, from);
     }
 }

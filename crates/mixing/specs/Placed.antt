@@ -1,7 +1,7 @@
 -- What the code gives for a place: its number and how it came, both the ledger's; and what a block changes of an event. Assumes nothing.
 use Rattle.std.specs.Prelude.{◌≡◌, ℕ, ◌-◌, min, max, Bool, true, false, cond, ◌&&◌, nat_le, nat_lt, refl, Float}
 use Rattle.std.proofs.Common.{sym, ap}
-use Rattle.floats.specs.Arithmetic.{◌+ᵈ◌, ◌-ᵈ◌, ◌<ᶠ◌, ◌≤ᶠ◌, zeroᶠ}
+use Rattle.floats.specs.Arithmetic.{◌+ᵈ◌, ◌-ᵈ◌, ◌<ᶠ◌, zeroᶠ}
 use Rattle.floats.specs.declared.SampleIndex.{SampleIndex}
 use Rattle.floats.specs.Floats.{index, is_free}
 use Rattle.event.specs.declared.Event.{Event}

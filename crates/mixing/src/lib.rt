@@ -14,7 +14,8 @@ ghost use Rattle.mixing.specs.Placed.{placing_of, rounded_place, raised_place, f
 
 use event::{Event, Fade, Placing, Placings, Unit};
 use floats::{Clamp, SampleIndex};
-use runs::{least, minus};
+
+// The two fades have a function each throughout, as in the Rust that this is read beside (document 01): their ends, tests and places differ.
 
 // ---- a tick
 
@@ -22,20 +23,14 @@ use runs::{least, minus};
 fn is_past(a: f64, b: f64, x: f64) -> bool
     ensures { result ≡ (a <ᶠ b && b ≤ᶠ x) }
 {
-    if a < b {
-        return b <= x;
-    }
-    false
+    a < b && b <= x
 }
 
-// Whether a < b and x is not after a.
+// Whether a < b and x is not after a. One function for both would be told which end and which order, and be no plainer.
 fn is_ahead(a: f64, b: f64, x: f64) -> bool
     ensures { result ≡ (a <ᶠ b && x ≤ᶠ a) }
 {
-    if a < b {
-        return x <= a;
-    }
-    false
+    a < b && x <= a
 }
 
 // A sample x with a fade from `bottom` to `top`: a fade-in where its phase is below 1, a fade-out where it is above 0.
@@ -64,8 +59,7 @@ fn tick_fade_in(event: Event, time: f64, x: f32) -> f32
         if is_past(event.start_time, top, time) {
             return x;
         }
-        let ease = event.fade_ease;
-        return tick_fade(event.start_time, top, ease, true, time, x);
+        return tick_fade(event.start_time, top, event.fade_ease, true, time, x);
     }
     x
 }
@@ -79,8 +73,7 @@ fn tick_fade_out(event: Event, time: f64, x: f32) -> f32
         if is_ahead(bottom, event.end_time, time) {
             return x;
         }
-        let ease = event.fade_ease;
-        return tick_fade(bottom, event.end_time, ease, false, time, x);
+        return tick_fade(bottom, event.end_time, event.fade_ease, false, time, x);
     }
     x
 }
@@ -89,9 +82,7 @@ fn tick_fade_out(event: Event, time: f64, x: f32) -> f32
 pub fn tick_sample(event: Event, time: f64, pool: &[f32]) -> f32
     ensures { result ≡ tick_sample pool.now time event }
 {
-    let unit = event.unit;
-    let gain = event.gain;
-    let x = unit.sample(pool) * gain;
+    let x = event.unit.sample(pool) * event.gain;
     let y = tick_fade_in(event, time, x);
     tick_fade_out(event, time, y)
 }
@@ -100,9 +91,7 @@ pub fn tick_sample(event: Event, time: f64, pool: &[f32]) -> f32
 pub fn after_tick(mut event: Event) -> Event
     ensures { result ≡ after_tick event }
 {
-    let unit = event.unit;
-    let unit = unit.advance();
-    event.unit = unit;
+    event.unit = event.unit.advance();
     event
 }
 
@@ -122,8 +111,7 @@ pub struct Span {
 pub fn cleared_places(size: usize) -> usize
     ensures { result ≡ cleared_places size }
 {
-    let n = least(64, size);
-    8 * ((n + 7) / 8)
+    8 * size.min(64).div_ceil(8)
 }
 
 // A place in the block, and how it came.
@@ -137,16 +125,9 @@ struct Place {
 fn placing(most: usize, step: SampleIndex) -> Placing
     ensures { result ≡ placing_of most step }
 {
-    let how = step.how;
-    match how {
-        Clamp::Free => {
-            if step.index as usize <= most {
-                return Placing::Kept;
-            }
-            Placing::Forced
-        }
-        Clamp::Raised => Placing::Forced,
-        Clamp::Cut => Placing::Forced,
+    match step.how {
+        Clamp::Free if step.index as usize <= most => Placing::Kept,
+        _ => Placing::Forced,
     }
 }
 
@@ -155,10 +136,9 @@ fn rounded(most: usize, x: f64) -> Place
     ensures { result ≡ rounded_place most x }
 {
     let step = floats::sample_index(x);
-    let how = placing(most, step);
     Place {
-        at: least(most, step.index as usize),
-        how: how,
+        at: most.min(step.index as usize),
+        how: placing(most, step),
     }
 }
 
@@ -186,7 +166,7 @@ fn first_place(event: Event, span: Span) -> Place
         };
     }
     rounded(
-        least(64, span.size),
+        span.size.min(64),
         (event.start_time - span.clock) * span.rate,
     )
 }
@@ -195,7 +175,7 @@ fn first_place(event: Event, span: Span) -> Place
 fn end_place(event: Event, span: Span) -> Place
     ensures { result ≡ end_of (as_span span) event }
 {
-    let n = least(64, span.size);
+    let n = span.size.min(64);
     if event.end_time >= span.upto {
         return Place {
             at: n,
@@ -258,11 +238,10 @@ pub fn fade_in(span: Span, start_index: usize, end_index: usize, event: Event, o
     if event.fade_in > 0.0 {
         if top > span.clock {
             let place = fade_in_place(event, span, end_index);
-            let to = minus(place.at, start_index);
+            let to = place.at.saturating_sub(start_index);
             let phase = phase_at(span, start_index, event.start_time, top);
             let step = phase_step(span, event.fade_in);
-            let ease = event.fade_ease;
-            runs::fade(output, 0, to, ease, true, phase, step);
+            runs::fade(output, 0, to, event.fade_ease, true, phase, step);
         }
     }
 }
@@ -279,10 +258,9 @@ pub fn fade_out(span: Span, start_index: usize, end_index: usize, event: Event, 
             let i = place.at;
             let phase = phase_at(span, i, bottom, event.end_time);
             let step = phase_step(span, event.fade_out);
-            let from = minus(i, start_index);
-            let to = minus(end_index, start_index);
-            let ease = event.fade_ease;
-            runs::fade(output, from, to, ease, false, phase, step);
+            let from = i.saturating_sub(start_index);
+            let to = end_index.saturating_sub(start_index);
+            runs::fade(output, from, to, event.fade_ease, false, phase, step);
         }
     }
 }
@@ -300,10 +278,8 @@ fn add_run(
     requires { length row.old ≡ z - s }
     ensures { (result ≡ advanced_by event.unit (z - s)) × (channel.new ≡ add_at s (faded_run pool.now (as_span span) s z event) channel.old) }
 {
-    let unit = event.unit;
-    let unit = runs::fill_run(row, unit, pool);
-    let gain = event.gain;
-    runs::apply_gain(row, gain);
+    let unit = runs::fill_run(row, event.unit, pool);
+    runs::apply_gain(row, event.gain);
     fade_in(span, s, z, event, row);
     fade_out(span, s, z, event, row);
     runs::add_at(channel, row, s);
@@ -314,33 +290,21 @@ fn add_run(
 fn fades_in(event: Event, span: Span) -> bool
     ensures { result ≡ fades_in (as_span span) event }
 {
-    if event.fade_in > 0.0 {
-        return event.start_time + event.fade_in > span.clock;
-    }
-    false
+    event.fade_in > 0.0 && event.start_time + event.fade_in > span.clock
 }
 
 // Whether the fade-out acts in the block.
 fn fades_out(event: Event, span: Span) -> bool
     ensures { result ≡ fades_out (as_span span) event }
 {
-    if event.fade_out > 0.0 {
-        return event.end_time - event.fade_out < span.upto;
-    }
-    false
+    event.fade_out > 0.0 && event.end_time - event.fade_out < span.upto
 }
 
 // Whether an event that ends at place z goes to a channel of n places as it is: all its places are there, and no fade acts.
 fn is_plain(event: Event, span: Span, z: usize, n: usize) -> bool
     ensures { result ≡ (nat_le z n && not (fades_in (as_span span) event || fades_out (as_span span) event)) }
 {
-    if n < z {
-        return false;
-    }
-    if fades_in(event, span) {
-        return false;
-    }
-    !fades_out(event, span)
+    z <= n && !fades_in(event, span) && !fades_out(event, span)
 }
 
 // Without fades: a source's z - s samples at a gain are added, in one pass, to a channel that has all the places; the source after them.
@@ -387,8 +351,7 @@ fn count_fade_in(event: Event, span: Span, z: usize, places: Placings) -> Placin
 {
     if fades_in(event, span) {
         let place = fade_in_place(event, span, z);
-        let how = place.how;
-        return places.add(how);
+        return places.add(place.how);
     }
     places
 }
@@ -399,8 +362,7 @@ fn count_fade_out(event: Event, span: Span, s: usize, places: Placings) -> Placi
 {
     if fades_out(event, span) {
         let place = fade_out_place(event, span, s);
-        let how = place.how;
-        return places.add(how);
+        return places.add(place.how);
     }
     places
 }
@@ -414,10 +376,7 @@ pub fn count_places(event: Event, span: Span, places: Placings) -> Placings
     let end = end_place(event, span);
     let s = first.at;
     let z = end.at;
-    let how = first.how;
-    let places = places.add(how);
-    let how = end.how;
-    let places = places.add(how);
+    let places = places.add(first.how).add(end.how);
     if s < z {
         let places = count_fade_in(event, span, z, places);
         return count_fade_out(event, span, s, places);

@@ -1,5 +1,5 @@
 -- The loop of `drain_sorted`: what has left the heap, and what the rest of it gives, are the heap's keys in order. Assumes nothing.
-use mathlib.Core.Bool.{Bool, false, Bool-set}
+use mathlib.Core.Bool.{false, Bool-set}
 use mathlib.Core.Path.{◌≡◌, refl, sym, ap, ◌∙◌, subst}
 use mathlib.Core.Logic.{⊎_elim, ∥∥₁_elim}
 use mathlib.Core.List.Memᴰ
@@ -8,13 +8,13 @@ use mathlib.Core.List.{List, [], ◌∷◌, ◌++◌, map, Memᴰ}
 use Prim.Native.Nat.{ℕ, zero, suc, ◌+◌, ◌-◌, ◌≤◌, ◌<◌}
 use native.Mathlib.Omega.{arith}
 use native.Mathlib.Numerals.{add-one}
-use lib.ListN.{length, get_or, set, take, drop, length-set, take-append-drop}
+use lib.ListN.{length, get_or, set, take, drop, take-append-drop}
 use lib.Seq.{take-suc-set, drop-set-lt, drop-drop}
 use Rattle.ready.specs.Sift.{sink}
 use Rattle.ready.proofs.HeapOrder.{root_least, pop_ordered, moves-length, sink_moves}
 use Rattle.ready.specs.HeapOrder.{Heap-ordered}
 use Rattle.ready.proofs.Stands.{pop_perm}
-use Rattle.overlap.specs.Insertion.{inserts_by, least_first}
+use Rattle.overlap.specs.Insertion.{least_first}
 use Rattle.overlap.specs.Keys.{Key, number_of_key, key_less, key_order, no_key, keys_in_order, keys_perm}
 
 -- what is among the first n has a place there

@@ -1,4 +1,3 @@
-pub mod Sifting
 pub mod Draining
 pub mod Gathering
 pub mod Listing

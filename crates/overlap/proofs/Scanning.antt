@@ -1,13 +1,11 @@
 -- The loop of `first_from`: the first so far is the head of those seen so far, in order. Assumes nothing.
-use mathlib.Core.Bool.{Bool, true, false, cond, true≢false}
+use mathlib.Core.Bool.{Bool, true, false, true≢false}
 use mathlib.Core.Path.{◌≡◌, refl, sym, ap, ◌∙◌, subst}
 use mathlib.Core.List.{List, [], ◌∷◌, ◌++◌}
-use Prim.Native.Nat.{ℕ, suc, ◌+◌, min, ◌≤◌, ◌<◌}
+use Prim.Native.Nat.{ℕ, ◌+◌, min, ◌<◌}
 use native.Mathlib.Omega.{arith}
 use native.Mathlib.Numerals.{add-one}
-use lib.Dec.{T}
-use lib.Ieee.{Float, nan, inf, fin, ne, is_nan}
-use lib.Ieee.Compare.{differs_from_itself, nan_differs}
+use lib.Ieee.{Float, is_nan}
 use lib.ListN.{length, get_or, take, length-take}
 use lib.Seq.{take_all, get_or-take}
 use Rattle.event.specs.declared.Event.{Event}
@@ -15,10 +13,10 @@ use Rattle.event.specs.Events.{earlier}
 use Rattle.event.specs.Blank.{blank}
 use Rattle.ledger.specs.Lists.{insert, insert_all}
 use Rattle.sequencer.specs.declared.Sequencer.{Sequencer}
-use Rattle.overlap.specs.declared.FirstWaiting.{FirstWaiting}
-use Rattle.overlap.specs.declared.FirstWaiting.TheVariants as first
+use Rattle.std.proofs.Common.{Option, Some, None, Ok, Err, option_map}
+use Rattle.overlap.specs.declared.Refusal.TheVariants.{Improper}
 use Rattle.overlap.specs.Stretch.{those, in_order, starts_from, first_of, first_answer}
-use Rattle.overlap.specs.Reading.{first_read}
+use Rattle.overlap.specs.Reading.{first_read, comes_first}
 use Rattle.memory.specs.Memory.{Cells, event_at, slot_of, engine_of}
 use Rattle.memory.specs.Laws.{waits-read}
 use Rattle.overlap.proofs.Gathering.{passing, failing, sized_engine}
@@ -28,23 +26,23 @@ unfolding insert_all
 insert_all-last [] w e = refl
 insert_all-last (x ∷ a) w e = insert_all-last a (insert x w) e
 
--- whether there is a first, and which
-abbrev pub Best : Bool → Event → List Event → Type 0
-Best true f l = (t : List Event) × (l ≡ f ∷ t)
-Best false f l = l ≡ []
+-- the first, if there is one
+abbrev pub Best : Option Event → List Event → Type 0
+Best (Some f) l = (t : List Event) × (l ≡ f ∷ t)
+Best None l = l ≡ []
 
 -- one more event
-best_sooner : (e f : Event) (l : List Event) → earlier e f ≡ true → Best true f l → Best true e (insert e l)
+best_sooner : (e f : Event) (l : List Event) → earlier e f ≡ true → Best (Some f) l → Best (Some e) (insert e l)
 unfolding insert
 best_sooner e f l h b = (f ∷ b.0, ap (insert e) b.1 ∙ rw h refl)
 
-best_later : (e f : Event) (l : List Event) → earlier e f ≡ false → Best true f l → Best true f (insert e l)
+best_later : (e f : Event) (l : List Event) → earlier e f ≡ false → Best (Some f) l → Best (Some f) (insert e l)
 unfolding insert
 best_later e f l h b = (insert e b.0, ap (insert e) b.1 ∙ rw h refl)
 
-best_only : (e f : Event) (l : List Event) → Best false f l → Best true e (insert e l)
+best_only : (e : Event) (l : List Event) → Best None l → Best (Some e) (insert e l)
 unfolding insert
-best_only e f l b = ([], ap (insert e) b)
+best_only e l b = ([], ap (insert e) b)
 
 module _ (p : Event → Bool) (l : List Event) where
   -- those of the first i that pass, in order
@@ -59,51 +57,38 @@ module _ (p : Event → Bool) (l : List Event) where
     seen_in : p e ≡ true → seen (i + 1) ≡ insert e (seen i)
     seen_in t = ap (λ (a : List Event). insert_all a []) (rw (add-one i) (passing p l i e h q t)) ∙ insert_all-last (those p (take i l)) [] e
 
-    pub out : (b : Bool) (f : Event) → p e ≡ false → Best b f (seen i) → Best b f (seen (i + 1))
-    out b f t s = subst (Best b f) (sym (ap (λ (a : List Event). insert_all a []) (rw (add-one i) (failing p l i e h q t)))) s
+    pub out : (o : Option Event) → p e ≡ false → Best o (seen i) → Best o (seen (i + 1))
+    out o t s = subst (Best o) (sym (ap (λ (a : List Event). insert_all a []) (rw (add-one i) (failing p l i e h q t)))) s
 
-    pub sooner_in : (b : Bool) (f : Event) → p e ≡ true → b ≡ true → earlier e f ≡ true → Best b f (seen i) → Best true e (seen (i + 1))
-    sooner_in b f t k s g = subst (Best true e) (sym (seen_in t)) (best_sooner e f (seen i) s (subst (λ (x : Bool). Best x f (seen i)) k g))
+    pub first_in : (o : Option Event) → p e ≡ true → comes_first e o ≡ true → Best o (seen i) → Best (Some e) (seen (i + 1))
+    first_in (Some f) t s g = subst (Best (Some e)) (sym (seen_in t)) (best_sooner e f (seen i) s g)
+    first_in None t s g = subst (Best (Some e)) (sym (seen_in t)) (best_only e (seen i) g)
 
-    pub later_in : (b : Bool) (f : Event) → p e ≡ true → b ≡ true → earlier e f ≡ false → Best b f (seen i) → Best true f (seen (i + 1))
-    later_in b f t k s g = subst (Best true f) (sym (seen_in t)) (best_later e f (seen i) s (subst (λ (x : Bool). Best x f (seen i)) k g))
-
-    pub only_in : (b : Bool) (f : Event) → p e ≡ true → b ≡ false → Best b f (seen i) → Best true e (seen (i + 1))
-    only_in b f t k g = subst (Best true e) (sym (seen_in t)) (best_only e f (seen i) (subst (λ (x : Bool). Best x f (seen i)) k g))
+    pub later_in : (o : Option Event) → p e ≡ true → comes_first e o ≡ false → Best o (seen i) → Best o (seen (i + 1))
+    later_in (Some f) t s g = subst (Best (Some f)) (sym (seen_in t)) (best_later e f (seen i) s g)
+    later_in None t s g = absurd (true≢false s)
 
 -- ---- the answer
 
-no_nan : (t : Float) → ne t t ≡ false → is_nan t ≡ false
-unfolding is_nan
-no_nan nan h = absurd (true≢false (sym nan_differs ∙ h))
-no_nan (inf s) h = refl
-no_nan (fin s m e) h = refl
-
-a_nan : (t : Float) → ne t t ≡ true → is_nan t ≡ true
-unfolding is_nan
-a_nan t h = ap is_nan (differs_from_itself t (subst T (sym h) tt))
-
 module _ (t : Float) (s : Sequencer) where
-  pub nan_refused : ne t t ≡ true → first.Refused 17 ≡ first_read t s
+  pub nan_refused : is_nan t ≡ true → Err Improper ≡ first_read t s
   unfolding first_read first_answer
-  nan_refused h = rw (a_nan t h) refl
+  nan_refused h = rw h refl
 
-  module _ (n i : ℕ) (h : ne t t ≡ false) (z : length s.ready ≡ 256) (k : n ≡ min s.ready_len 256) (d : n ≤ i) where
-    abbrev heap : List Event
-    heap = take s.ready_len s.ready
+  abbrev heap : List Event
+  heap = take s.ready_len s.ready
 
+  module _ (i : ℕ) (h : is_nan t ≡ false) (z : length s.ready ≡ 256) (k : i ≡ min s.ready_len 256) where
     whole : take i heap ≡ heap
     whole = take_all i heap (omega (arith, length-take s.ready_len s.ready))
 
     read : (l : List Event) → seen (starts_from t) heap i ≡ l → first_of l ≡ first_read t s
     unfolding first_read first_answer
-    read l q = rw (no_nan t h) (sym (ap first_of (ap (λ (a : List Event). in_order (those (starts_from t) a)) (sym whole) ∙ q)))
+    read l q = rw h (sym (ap first_of (ap (λ (a : List Event). in_order (those (starts_from t) a)) (sym whole) ∙ q)))
 
-    pub some_first : (b : Bool) (f : Event) → b ≡ true → Best b f (seen (starts_from t) heap i) → first.Number f.id ≡ first_read t s
-    some_first b f k g = let r = subst (λ (x : Bool). Best x f (seen (starts_from t) heap i)) k g in read (f ∷ r.0) r.1
-
-    pub no_first : (b : Bool) (f : Event) → b ≡ false → Best b f (seen (starts_from t) heap i) → first.Nothing ≡ first_read t s
-    no_first b f k g = read [] (subst (λ (x : Bool). Best x f (seen (starts_from t) heap i)) k g)
+    pub answered : (o : Option Event) → Best o (seen (starts_from t) heap i) → Ok (option_map (λ (f : Event). f.id) o) ≡ first_read t s
+    answered (Some f) g = read (f ∷ g.0) g.1
+    answered None g = read [] g
 
 -- the event that the code takes
 pub heap_at : (c : Cells) (n i : ℕ) (e : Event) → n ≡ min (engine_of c).ready_len 256 → i < n → e ≡ event_at c (slot_of (0 + i))

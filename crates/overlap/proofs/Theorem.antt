@@ -1,7 +1,7 @@
 -- What the calls read of an engine that holds a ledger's lists is what Paper 4 says of the ledger; so it is after any list of calls from any creation. Assumes nothing.
-use Rattle.std.specs.Prelude.{ℕ, suc, ◌^◌, ◌≤◌, ◌<◌, Bool, true, false, ◌≡◌, refl, Float, length, drop}
+use Rattle.std.specs.Prelude.{ℕ, suc, ◌^◌, ◌≤◌, ◌<◌, Bool, true, false, ◌≡◌, refl, Float, Some, None, Ok, Err, length, drop}
 use Rattle.std.proofs.Math.Bool.{cond}
-use Rattle.std.proofs.Common.{true≢false, sym, ◌∙◌, ⊎_elim, arith, length-append, take_all}
+use Rattle.std.proofs.Common.{sym, ◌∙◌, ⊎_elim, arith, length-append, take_all}
 use Rattle.std.proofs.Math.Path.{ap}
 use mathlib.Core.List.Memᴰ
 use mathlib.Core.List.Perm
@@ -9,7 +9,6 @@ use mathlib.Core.List.{List, [], ◌∷◌, ◌++◌, Memᴰ, Perm}
 use Rattle.std.specs.Float.Ieee.{is_nan}
 use Rattle.event.specs.declared.Event.{Event}
 use Rattle.event.specs.declared.ReplayMode.{ReplayMode}
-use Rattle.event.specs.Events.{earlier}
 use Rattle.ready.proofs.HeapOrder.{perm_eq}
 use Rattle.ledger.specs.Calls.{Call}
 use Rattle.ledger.specs.Ledger.{Ledger, create}
@@ -23,11 +22,8 @@ use Rattle.claim.specs.View.{view_of}
 use Rattle.claim.specs.EngineCalls.{engine}
 use Rattle.claim.specs.CarriedOut.{after}
 use Rattle.claim.proofs.Theorem.{claim}
-use Rattle.overlap.specs.declared.Found.{Found}
-use Rattle.overlap.specs.declared.Found.TheVariants as found
-use Rattle.overlap.specs.declared.FirstWaiting.{FirstWaiting}
-use Rattle.overlap.specs.declared.FirstWaiting.TheVariants as first
-use Rattle.overlap.specs.Stretch.{those, held_events, in_stretch, in_order, clips_of, written, sound, clips_answer, clips_listed, starts_from, first_of, first_answer, first_in}
+use Rattle.overlap.specs.declared.Refusal.TheVariants.{Improper}
+use Rattle.overlap.specs.Stretch.{FirstWaiting, those, held_events, in_stretch, in_order, clips_of, written, sound, clips_answer, clips_listed, starts_from, first_of, first_answer, first_in}
 use Rattle.overlap.specs.Insertion.{those_perm}
 use Rattle.overlap.specs.Keys.{sorted_perm, sorted_stays, sorted_length, numbers-length}
 use Rattle.overlap.specs.Reading.{held_in, first_read}
@@ -48,7 +44,7 @@ module _ (s : Sequencer) (l : Ledger) (v : SameState (view_of s) l) where
 
   answer-same : (from to : Float) (out : List ℕ) → clips_answer from to out (held_in s) ≡ clips_answer from to out (held_events l)
   unfolding clips_answer
-  answer-same from to out = ap (λ (n : ℕ). cond (sound from to out) (found.Clips n) (found.Refused 17)) (count_same from to)
+  answer-same from to out = ap (λ (n : ℕ). cond (sound from to out) (Ok n) (Err Improper)) (count_same from to)
 
   listed_same : (from to : Float) (out : List ℕ) → clips_listed from to out (held_in s) ≡ clips_listed from to out (held_events l)
   unfolding clips_listed
@@ -106,8 +102,8 @@ those_sorted p (x ∷ l) s = go (p x) (those_sorted p l s.1)
     go false ih = ih
 
 first_number : List ℕ → FirstWaiting
-first_number [] = first.Nothing
-first_number (k ∷ l) = first.Number (record { 0 = k })
+first_number [] = Ok None
+first_number (k ∷ l) = Ok (Some (record { 0 = k }))
 
 first_number_lem : (l : List Event) → first_of l ≡ first_number (numbers l)
 unfolding first_number
@@ -117,7 +113,7 @@ first_number_lem (e ∷ l) = refl
 module _ (s : Sequencer) (l : Ledger) (v : SameState (view_of s) l) (w : Lawful l) where
   first-same : (time : Float) → first_read time s ≡ first_in time l
   unfolding first_read first_in first_answer
-  first-same t = ap (λ (o : FirstWaiting). cond (is_nan t) (first.Refused 17) o) same
+  first-same t = ap (λ (o : FirstWaiting). cond (is_nan t) (Err Improper) o) same
     where
       heap : List Event
       heap = (view_of s).heap
@@ -150,20 +146,20 @@ unfolding those
 those-none p [] h = refl
 those-none p (x ∷ l) h = rw (h x (Memᴰ.head refl), those-none p l (λ y m. h y (Memᴰ.tail m)))
 
-none-those : (p : Event → Bool) (l : List Event) → first_of (those p l) ≡ first.Nothing → (y : Event) → Memᴰ y l → p y ≡ false
+none-those : (p : Event → Bool) (l : List Event) → first_of (those p l) ≡ Ok None → (y : Event) → Memᴰ y l → p y ≡ false
 unfolding those
 none-those p [] n y m = absurd (Memᴰ.not-nil m)
 none-those p (x ∷ l) n y m = go (p x) refl n (λ k. none-those p l k y)
   where
-    go : (b : Bool) → p x ≡ b → first_of (cond b (x ∷ those p l) (those p l)) ≡ first.Nothing → (first_of (those p l) ≡ first.Nothing → Memᴰ y l → p y ≡ false) → p y ≡ false
+    go : (b : Bool) → p x ≡ b → first_of (cond b (x ∷ those p l) (those p l)) ≡ Ok None → (first_of (those p l) ≡ Ok None → Memᴰ y l → p y ≡ false) → p y ≡ false
     go true h k ih = let z : ◌≡◌ {A = ℕ} 0 1 = cc in absurd (omega arith)
     go false h k ih = ⊎_elim (λ e. ap p e ∙ h) (λ j. ih k j) (Memᴰ.cases_cons m)
 
 module _ (t : Float) (l : Ledger) (known : is_nan t ≡ false) where
-  pub first-none : ((e : Event) → Memᴰ e l.waiting → starts_from t e ≡ false) → first_in t l ≡ first.Nothing
+  pub first-none : ((e : Event) → Memᴰ e l.waiting → starts_from t e ≡ false) → first_in t l ≡ Ok None
   unfolding first_in first_answer
   first-none h = rw (known, those-none (starts_from t) l.waiting h)
 
-  pub none_first : first_in t l ≡ first.Nothing → (e : Event) → Memᴰ e l.waiting → starts_from t e ≡ false
+  pub none_first : first_in t l ≡ Ok None → (e : Event) → Memᴰ e l.waiting → starts_from t e ≡ false
   unfolding first_in first_answer
   none_first h = none-those (starts_from t) l.waiting (rw known at h)

@@ -1,5 +1,5 @@
 -- Paper 4's sentences on small ledgers, computed. At rate 8; the values are the paper's, by hand. Assumes nothing.
-use Rattle.std.specs.Prelude.{ℕ, ◌-◌, true, false, ◌≡◌, refl, List, [], ◌∷◌, ◌++◌, pos, negsuc, Float, replicate}
+use Rattle.std.specs.Prelude.{ℕ, true, false, ◌≡◌, refl, List, [], ◌∷◌, ◌++◌, pos, negsuc, Float, replicate, Some, None, Ok, Err}
 use Rattle.std.specs.Float.{nan, fin}
 use Rattle.std.specs.Float.Ieee.{lt, le, is_nan}
 use Rattle.event.specs.declared.Event.{Event}
@@ -18,11 +18,9 @@ use Rattle.ledger.proofs.CasesOfSlips.{ledger_of}
 use Rattle.sequencer.specs.declared.Sequencer.{Sequencer}
 use Rattle.sequencer.specs.Parts.{with_ready, with_active, with_past}
 use Rattle.sequencer.specs.Creation.{fresh_engine}
-use Rattle.overlap.specs.declared.Found.{Found}
-use Rattle.overlap.specs.declared.Found.TheVariants as found
-use Rattle.overlap.specs.declared.FirstWaiting.{FirstWaiting}
-use Rattle.overlap.specs.declared.FirstWaiting.TheVariants as first
-use Rattle.overlap.specs.Stretch.{those, held_events, clips_of, clips_answer, clips_listed, first_answer, first_in}
+use Rattle.overlap.specs.declared.Refusal.TheVariants.{Improper}
+use Rattle.overlap.specs.Refusals.{number_of}
+use Rattle.overlap.specs.Stretch.{FirstWaiting, those, held_events, clips_of, clips_answer, clips_listed, first_answer, first_in}
 use Rattle.overlap.specs.Reading.{held_in, first_read}
 
 abbrev -0ᶠ : Float
@@ -68,13 +66,13 @@ from-4 = refl
 abbrev slice : List ℕ
 slice = replicate 256 7
 
-two-and-254 : (clips_answer halfᶠ (whole 2) slice (held_events five) ≡ found.Clips 2) × (clips_listed halfᶠ (whole 2) slice (held_events five) ≡ (2 ∷ 5 ∷ []) ++ replicate 254 7)
+two-and-254 : (clips_answer halfᶠ (whole 2) slice (held_events five) ≡ Ok 2) × (clips_listed halfᶠ (whole 2) slice (held_events five) ≡ (2 ∷ 5 ∷ []) ++ replicate 254 7)
 unfolding five clips_answer clips_listed clips_of those insert_all lt whole
 two-and-254 = (refl, refl)
 
 -- "A NaN in a stretch .., a stretch whose end is not above its beginning, or a slice of another length gets 17, before anything is written"
 abbrev Refuses : (from to : Float) → List ℕ → Type 0
-Refuses from to out = (clips_answer from to out (held_events five) ≡ found.Refused 17) × (clips_listed from to out (held_events five) ≡ out)
+Refuses from to out = (clips_answer from to out (held_events five) ≡ Err Improper) × (clips_listed from to out (held_events five) ≡ out)
 
 seventeen : Refuses nan oneᶠ slice × Refuses zeroᶠ nan slice × Refuses oneᶠ oneᶠ slice × Refuses oneᶠ zeroᶠ slice × Refuses -0ᶠ zeroᶠ slice × Refuses zeroᶠ -0ᶠ slice × Refuses +∞ +∞ slice
     × Refuses zeroᶠ oneᶠ (replicate 255 7) × Refuses zeroᶠ oneᶠ (replicate 257 7) × Refuses zeroᶠ oneᶠ []
@@ -98,18 +96,18 @@ end_before-start = (refl, refl)
 abbrev first_at : Float → FirstWaiting
 first_at t = first_in t five
 
-firsts : (first_at -∞ ≡ first.Number (record { 0 = 5 })) × (first_at oneᶠ ≡ first.Number (record { 0 = 5 })) × (first_at (fin false 3 (negsuc 0)) ≡ first.Number (record { 0 = 1 }))
-    × (first_at (whole 2) ≡ first.Number (record { 0 = 1 })) × (first_at (whole 3) ≡ first.Nothing) × (first_at +∞ ≡ first.Nothing) × (first_at nan ≡ first.Refused 17)
+firsts : (first_at -∞ ≡ Ok (Some (record { 0 = 5 }))) × (first_at oneᶠ ≡ Ok (Some (record { 0 = 5 }))) × (first_at (fin false 3 (negsuc 0)) ≡ Ok (Some (record { 0 = 1 })))
+    × (first_at (whole 2) ≡ Ok (Some (record { 0 = 1 }))) × (first_at (whole 3) ≡ Ok None) × (first_at +∞ ≡ Ok None) × (first_at nan ≡ Err Improper)
 unfolding five first_in first_answer those le is_nan whole
 firsts = (refl, refl, refl, refl, refl, refl, refl)
 
 -- "the first waiting event": one that sounds is none
-none-waits : first_in -∞ (ledger_of (clip zeroᶠ oneᶠ ∷ one_tick ∷ [])) ≡ first.Nothing
+none-waits : first_in -∞ (ledger_of (clip zeroᶠ oneᶠ ∷ one_tick ∷ [])) ≡ Ok None
 unfolding ledger_of first_in first_answer those le is_nan
 none-waits = refl
 
 -- "against .. a given time -0.0 equals 0.0": a start of -0.0 is at 0.0, and comes first
-zeros : first_in zeroᶠ (ledger_of (clip zeroᶠ oneᶠ ∷ clip -0ᶠ oneᶠ ∷ [])) ≡ first.Number (record { 0 = 2 })
+zeros : first_in zeroᶠ (ledger_of (clip zeroᶠ oneᶠ ∷ clip -0ᶠ oneᶠ ∷ [])) ≡ Ok (Some (record { 0 = 2 }))
 unfolding ledger_of first_in first_answer those le is_nan
 zeros = refl
 
@@ -130,7 +128,11 @@ unfolding fresh_engine clips_of those insert insert_all sooner total_less lt who
 engine_clips = refl
 
 -- of those that wait the first from 1.5 on is 1, which the array has behind 4
-engine-first : (first_read (fin false 3 (negsuc 0)) engine ≡ first.Number (record { 0 = 1 })) × (first_read -∞ engine ≡ first.Number (record { 0 = 5 }))
-    × (first_read (whole 4) engine ≡ first.Nothing) × (first_read nan engine ≡ first.Refused 17)
+engine-first : (first_read (fin false 3 (negsuc 0)) engine ≡ Ok (Some (record { 0 = 1 }))) × (first_read -∞ engine ≡ Ok (Some (record { 0 = 5 })))
+    × (first_read (whole 4) engine ≡ Ok None) × (first_read nan engine ≡ Err Improper)
 unfolding fresh_engine first_read first_answer those insert insert_all sooner total_less le is_nan whole
 engine-first = (refl, refl, refl, refl)
+
+-- the paper's number
+number : number_of Improper ≡ 17
+number = refl

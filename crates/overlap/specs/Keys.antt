@@ -1,5 +1,5 @@
--- What events are sorted by: start and number, as a pair. Sorted insertion of events, as the ledger has it, is sorted insertion of their keys; what two lists of starts and numbers hold. Assumes nothing.
-use Rattle.std.specs.Prelude.{ℕ, zero, suc, ◌+◌, Bool, true, false, cond, ◌≡◌, refl, Float, length, get_or, set}
+-- What events are sorted by: start and number, as a pair. Sorted insertion of events, as the ledger has it, is sorted insertion of their keys. Assumes nothing.
+use Rattle.std.specs.Prelude.{ℕ, suc, Bool, true, false, cond, ◌≡◌, refl, Float, length}
 use Rattle.std.proofs.Common.{true≢false, sym, ap, ◌∙◌, arith}
 use mathlib.Core.List.{List, [], ◌∷◌, map, map-map, Perm}
 use Rattle.std.proofs.Math.Decide.{ℕ_discrete}
@@ -114,32 +114,3 @@ numbers-length (e ∷ l) = ap suc (numbers-length l)
 
 pub sorted_length : (l : List Event) → length (insert_all l []) ≡ length l
 sorted_length l = ap length (insert_all-is l []) ∙ length_inserts_by earlier l [] ∙ omega arith
-
--- ---- a list of starts and a list of numbers
-
-unfoldable pub pairs : List Float → List ℕ → List Key
-pairs [] ns = []
-pairs (s ∷ ss) [] = []
-pairs (s ∷ ss) (n ∷ ns) = (s, n) ∷ pairs ss ns
-
-pub length_pairs : (ss : List Float) (ns : List ℕ) → length ss ≡ length ns → length (pairs ss ns) ≡ length ss
-unfolding pairs
-length_pairs [] ns h = refl
-length_pairs (s ∷ ss) [] h = absurd (omega arith)
-length_pairs (s ∷ ss) (n ∷ ns) h = ap suc (length_pairs ss ns (omega arith))
-
-pub get_or-pairs : (ss : List Float) (ns : List ℕ) (i : ℕ) → length ss ≡ length ns → get_or (pairs ss ns) i no_key ≡ (get_or ss i nan, get_or ns i 0)
-unfolding pairs
-get_or-pairs [] [] i h = refl
-get_or-pairs [] (n ∷ ns) i h = absurd (omega arith)
-get_or-pairs (s ∷ ss) [] i h = absurd (omega arith)
-get_or-pairs (s ∷ ss) (n ∷ ns) zero h = refl
-get_or-pairs (s ∷ ss) (n ∷ ns) (suc i) h = get_or-pairs ss ns i (omega arith)
-
-pub set-pairs : (ss : List Float) (ns : List ℕ) (i : ℕ) (x : Float) (k : ℕ) → pairs (set ss i x) (set ns i k) ≡ set (pairs ss ns) i (x, k)
-unfolding pairs
-set-pairs [] ns i x k = refl
-set-pairs (s ∷ ss) [] zero x k = refl
-set-pairs (s ∷ ss) [] (suc i) x k = refl
-set-pairs (s ∷ ss) (n ∷ ns) zero x k = refl
-set-pairs (s ∷ ss) (n ∷ ns) (suc i) x k = ap (λ (l : List Key). (s, n) ∷ l) (set-pairs ss ns i x k)

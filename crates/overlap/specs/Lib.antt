@@ -1,3 +1,4 @@
+pub mod Refusals
 pub mod Stretch
 pub mod Insertion
 pub mod Keys

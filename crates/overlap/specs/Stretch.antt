@@ -1,14 +1,13 @@
 -- Document 02, Paper 4, over the plain ledger's lists. Comparisons are IEEE 754's, so -0.0 equals 0.0; the order is that of W, totalOrder, so -0.0 comes before 0.0.
-use Rattle.std.specs.Prelude.{ℕ, Bool, ◌&&◌, cond, List, [], ◌∷◌, ◌++◌, eqb, Float, length, take, drop}
-use Rattle.std.specs.Float.Ieee.{lt, le, is_nan}
+use Rattle.std.specs.Prelude.{ℕ, Bool, ◌&&◌, cond, List, [], ◌∷◌, ◌++◌, eqb, Float, length, take, drop, Option, Some, None, Result, Ok, Err}
+use Rattle.std.specs.Float.Ieee.{is_nan}
 use Rattle.event.specs.declared.Event.{Event}
+use Rattle.event.specs.declared.EventId.{EventId}
 use Rattle.floats.specs.Arithmetic.{◌<ᶠ◌, ◌≤ᶠ◌}
 use Rattle.ledger.specs.Ledger.{Ledger}
 use Rattle.ledger.specs.Lists.{insert_all, numbers}
-use Rattle.overlap.specs.declared.Found.{Found}
-use Rattle.overlap.specs.declared.Found.TheVariants as found
-use Rattle.overlap.specs.declared.FirstWaiting.{FirstWaiting}
-use Rattle.overlap.specs.declared.FirstWaiting.TheVariants as first
+use Rattle.overlap.specs.declared.Refusal.{Refusal}
+use Rattle.overlap.specs.declared.Refusal.TheVariants.{Improper}
 
 -- those that pass a test, in order
 unfoldable pub those : {A : Type 0} → (A → Bool) → List A → List A
@@ -42,10 +41,14 @@ written ns out = take 256 ns ++ drop (length (take 256 ns)) out
 abbrev pub sound : (from to : Float) → (slice : List ℕ) → Bool
 sound from to out = (from <ᶠ to) && eqb (length out) 256
 
+-- how many clips the stretch has, or a refusal
+abbrev pub Found : Type 0
+Found = Result ℕ Refusal
+
 -- "counted"
 unfoldable pub clips_answer : (from to : Float) → (slice : List ℕ) → List Event → Found
 unfolding clips_of
-clips_answer from to out l = cond (sound from to out) (found.Clips (length (clips_of from to l))) (found.Refused 17)
+clips_answer from to out l = cond (sound from to out) (Ok (length (clips_of from to l))) (Err Improper)
 
 -- ".. and listed"
 unfoldable pub clips_listed : (from to : Float) → (slice : List ℕ) → List Event → List ℕ
@@ -58,14 +61,18 @@ clips_listed from to out l = cond (sound from to out) (written (numbers (clips_o
 abbrev pub starts_from : (time : Float) → Event → Bool
 starts_from t e = t ≤ᶠ e.start_time
 
+-- an event's number, or that no such event waits, or a refusal
+abbrev pub FirstWaiting : Type 0
+FirstWaiting = Result (Option EventId) Refusal
+
 -- the number of the first, "or none"
 abbrev pub first_of : List Event → FirstWaiting
-first_of [] = first.Nothing
-first_of (e ∷ l) = first.Number e.id
+first_of [] = Ok None
+first_of (e ∷ l) = Ok (Some e.id)
 
 -- "A NaN .. as the given time .. gets 17"
 unfoldable pub first_answer : (time : Float) → List Event → FirstWaiting
-first_answer t l = cond (is_nan t) (first.Refused 17) (first_of l)
+first_answer t l = cond (is_nan t) (Err Improper) (first_of l)
 
 -- W is in order
 unfoldable pub first_in : (time : Float) → Ledger → FirstWaiting

@@ -1,12 +1,10 @@
 -- Document 02, Paper 8: values of the definitions, computed. The expected ones are the paper's, by hand.
-use Rattle.std.specs.Prelude.{◌≡◌, refl, true, false, List, [], ◌∷◌, map, ℕ, pos, negsuc}
+use Rattle.std.specs.Prelude.{◌≡◌, refl, true, false, List, [], ◌∷◌, map, ℕ, pos, negsuc, Ok, Err}
 use Rattle.std.specs.Float.{nan, inf, fin}
 use Rattle.std.specs.Float.Ieee.{to_bits}
 use Rattle.peak.specs.declared.RunningPeak.{RunningPeak}
-use Rattle.peak.specs.declared.Reading.{Reading}
-use Rattle.peak.specs.declared.Reading.TheVariants.{Peak, Refused}
 use Rattle.peak.specs.Peaks.{magnitude, greatest, Feed, one, run, history, peak_of}
-use Rattle.peak.specs.Steps.{State, state, empty, suffix_maxima, created, serves, refusal, advanced, fed, fed_all, older, reading}
+use Rattle.peak.specs.Steps.{number_of, served, Reading, refused, refusal_in, peak_in, State, state, empty, suffix_maxima, created, serves, refusal, advanced, fed, fed_all, older, reading}
 use Rattle.peak.specs.Claim.{fresh, step, after}
 
 -- "the bits without the sign": of 1.0 and -1.0, both zeros, the least number below 0, the greatest finite one, both infinities and the NaN
@@ -31,19 +29,19 @@ unfolding greatest history
 nothing-fed = (refl, refl)
 
 -- "w from 1 to 4,096 fixed at its start"; a w outside, or a row of fewer words, is 20, "handing back a fresh one with w = 1"
-limits : map (λ w. (created w 4096).refusal) (0 ∷ 1 ∷ 4096 ∷ []) ≡ 20 ∷ 0 ∷ 0 ∷ []
+limits : map (λ w. refusal_in (created w 4096)) (0 ∷ 1 ∷ 4096 ∷ []) ≡ 20 ∷ 0 ∷ 0 ∷ []
 unfolding created
 limits = refl
 
-too_wide : ((created 4097 5000).refusal ≡ 20) × ((created 4097 5000).peak ≡ empty 1)
+too_wide : (refusal_in (created 4097 5000) ≡ 20) × (peak_in (created 4097 5000) ≡ empty 1)
 unfolding created
 too_wide = (refl, refl)
 
-rows : map (λ words. (created 64 words).refusal) (0 ∷ 63 ∷ 64 ∷ 65 ∷ []) ≡ 20 ∷ 20 ∷ 0 ∷ 0 ∷ []
+rows : map (λ words. refusal_in (created 64 words)) (0 ∷ 63 ∷ 64 ∷ 65 ∷ []) ≡ 20 ∷ 20 ∷ 0 ∷ 0 ∷ []
 unfolding created
 rows = refl
 
-handed_back : ((created 0 4096).peak ≡ empty 1) × ((created 64 63).peak ≡ empty 1) × ((created 64 64).peak ≡ empty 64)
+handed_back : (peak_in (created 0 4096) ≡ empty 1) × (peak_in (created 64 63) ≡ empty 1) × (peak_in (created 64 64) ≡ empty 64)
 unfolding created
 handed_back = (refl, refl, refl)
 
@@ -55,7 +53,7 @@ abbrev readings : State → List ℕ → List Reading
 readings s [] = reading s ∷ []
 readings s (m ∷ ms) = reading s ∷ readings (fed s m) ms
 
-window-of-3 : readings (fresh 3 row) (5 ∷ 1 ∷ 2 ∷ 1 ∷ 0 ∷ 0 ∷ 0 ∷ 4 ∷ []) ≡ map Peak (0 ∷ 5 ∷ 5 ∷ 5 ∷ 2 ∷ 2 ∷ 1 ∷ 0 ∷ 4 ∷ [])
+window-of-3 : readings (fresh 3 row) (5 ∷ 1 ∷ 2 ∷ 1 ∷ 0 ∷ 0 ∷ 0 ∷ 4 ∷ []) ≡ map Ok (0 ∷ 5 ∷ 5 ∷ 5 ∷ 2 ∷ 2 ∷ 1 ∷ 0 ∷ 4 ∷ [])
 unfolding created serves advanced fed suffix_maxima greatest older reading
 window-of-3 = refl
 
@@ -65,8 +63,8 @@ unfolding created serves advanced fed suffix_maxima greatest
 left-words = (refl, refl)
 
 -- a window of 1 is the last sample, whatever the row: after 20 too
-window-of-1 : (readings (fresh 1 row) (5 ∷ 3 ∷ 0 ∷ []) ≡ map Peak (0 ∷ 5 ∷ 3 ∷ 0 ∷ []))
-    × (readings (fresh 64 []) (5 ∷ 3 ∷ 0 ∷ []) ≡ map Peak (0 ∷ 5 ∷ 3 ∷ 0 ∷ []))
+window-of-1 : (readings (fresh 1 row) (5 ∷ 3 ∷ 0 ∷ []) ≡ map Ok (0 ∷ 5 ∷ 3 ∷ 0 ∷ []))
+    × (readings (fresh 64 []) (5 ∷ 3 ∷ 0 ∷ []) ≡ map Ok (0 ∷ 5 ∷ 3 ∷ 0 ∷ []))
 unfolding created serves advanced fed older reading
 window-of-1 = (refl, refl)
 
@@ -77,16 +75,24 @@ second = record { window = 3; place = 1; recent = 5; turned = false }
 abbrev astray : RunningPeak
 astray = record { window = 3; place = 3; recent = 5; turned = false }
 
-refused : (refusal second 2 ≡ 20) × (refusal second 3 ≡ 0) × (refusal astray 4 ≡ 20)
-    × (reading (state second (5 ∷ 9 ∷ [])) ≡ Refused 20) × (reading (state astray row) ≡ Refused 20)
+refusals : (refusal second 2 ≡ 20) × (refusal second 3 ≡ 0) × (refusal astray 4 ≡ 20)
+    × (reading (state second (5 ∷ 9 ∷ [])) ≡ Err (refused second)) × (reading (state astray row) ≡ Err (refused astray))
 unfolding serves reading
-refused = (refl, refl, refl, refl, refl)
+refusals = (refl, refl, refl, refl, refl)
 
 refused_changes_nothing : (fed_all (state second (5 ∷ 9 ∷ [])) (7 ∷ 8 ∷ []) ≡ state second (5 ∷ 9 ∷ [])) × (fed (state astray row) 7 ≡ state astray row)
 unfolding serves advanced fed
 refused_changes_nothing = (refl, refl)
 
 -- the calls: a run is its samples one after another, -2.0 and 0.5 being the last two
-calls : reading (after 2 row feeds) ≡ Peak 0x40000000
+calls : reading (after 2 row feeds) ≡ Ok 0x40000000
 unfolding step created serves advanced fed suffix_maxima greatest older reading magnitude to_bits
 calls = refl
+
+-- a refusal hands back the running peak as it was, and its number is 20
+left_as_it_was : map (λ (p : RunningPeak). served p 2) (second ∷ astray ∷ []) ≡ Err (refused second) ∷ Err (refused astray) ∷ []
+unfolding serves
+left_as_it_was = refl
+
+number : number_of (refused second) ≡ 20
+number = refl

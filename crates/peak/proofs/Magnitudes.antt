@@ -1,5 +1,5 @@
 -- What `greatest` and `magnitude` are worth: the greatest of a list is one of it, and none is above it; "an infinity exceeds every finite sample and a NaN exceeds an infinity". Assumes nothing.
-use Rattle.std.specs.Prelude.{◌≡◌, refl, Bool, true, false, cond, ℕ, ◌/◌, ◌%◌, max, ◌≤◌, ◌<◌, T, ltb, leb, eqb, ℤ, length, Float}
+use Rattle.std.specs.Prelude.{◌≡◌, refl, Bool, true, false, cond, ℕ, ◌/◌, ◌%◌, max, ◌≤◌, ◌<◌, T, ltb, leb, eqb, ℤ, length}
 use Rattle.std.proofs.Common.{sym, ap, ◌∙◌, ⊎_elim, div-add-mod', mod-lt, arith, ltb-true, ltb-false, eqb-true}
 use mathlib.Core.List.Memᴰ
 use mathlib.Core.List.{List, [], ◌∷◌, Memᴰ}

@@ -10,7 +10,7 @@ use lib.ListN.{length, get_or, set, take, drop, length-take, length-set, take-ap
 use lib.Seq.{drop-cons, get_or-take, length-take-le, take-suc, append_snoc, set_at, get_or_at, drop-length}
 use lib.Ieee.{Float, nan}
 use Rattle.peak.specs.Peaks.{magnitude, greatest}
-use Rattle.peak.specs.Steps.{State, suffix_maxima, suffix_maxima_to, serves, advanced, fed, fed_all}
+use Rattle.peak.specs.Steps.{State, suffix_maxima, suffix_maxima_to, serves, advanced, fed_all}
 use Rattle.peak.proofs.Turns.{taken, left_alone, next}
 
 module _ (w : ℕ) (l₀ : List ℕ) where
@@ -58,8 +58,8 @@ module _ (w : ℕ) (l₀ : List ℕ) where
   pub rising-turn : {i most : ℕ} {l : List ℕ} → Rising i most l → 0 < i → Rising (i - 1) (max (get_or l (i - 1) 0) most) (set l (i - 1) (max (get_or l (i - 1) 0) most))
   rising-turn {i} {most} {l} t h = let e : i ≡ suc (i - 1) = omega arith in turn (i - 1) most l (subst (λ (k : ℕ). Rising k most l) e t)
 
-  pub rising_done : {i most : ℕ} {l : List ℕ} → Rising i most l → i ≤ 0 → l ≡ suffix_maxima_to w l₀
-  rising_done {i} {most} {l} t h = let e : i ≡ 0 = omega arith in t.shape ∙ rw e refl
+  pub rising_done : {most : ℕ} {l : List ℕ} → Rising 0 most l → l ≡ suffix_maxima_to w l₀
+  rising_done t = t.shape
 
 -- what is fed and what is left give what the whole gives; the row serves all the way
 module _ (s₀ : State) (xs : List Float) where

@@ -1,5 +1,5 @@
 -- The claim. Since the last turn the row begins with what was fed; once there was a turn, the suffix maxima of what is left of the window before follow.
-use Rattle.std.specs.Prelude.{◌≡◌, refl, Bool, true, false, ltb, leb, drop, replicate}
+use Rattle.std.specs.Prelude.{◌≡◌, refl, Bool, true, false, ltb, leb, drop, replicate, Ok}
 use Rattle.std.proofs.Math.Path.{sym, ap}
 use Rattle.std.proofs.Common.{◌∙◌, subst, ltb-true, ltb-false, leb-true, leb-false, length-append, get_or-take, take-suc-set, get_or-set_other}
 use mathlib.Core.List.{List, [], ◌∷◌, ◌++◌, map, foldl, foldl-append, map-append, append-nil, append_assoc}
@@ -10,9 +10,8 @@ use Rattle.std.proofs.Math.ListN.{length, get_or, set, take, length-set}
 use Rattle.std.proofs.lemmas.List.{length-replicate, drop-append-le}
 use Rattle.std.proofs.Math.Seq.{append_snoc, take_at, drop-append-add}
 use Rattle.peak.specs.declared.RunningPeak.{RunningPeak}
-use Rattle.peak.specs.declared.Reading.TheVariants.{Peak}
 use Rattle.peak.specs.Peaks.{magnitude, greatest, last_of, Feed, one, run, history, peak_of}
-use Rattle.peak.specs.Steps.{State, state, empty, suffix_maxima, suffix_maxima_to, created, serves, refusal, advanced, fed, fed_all, older, reading}
+use Rattle.peak.specs.Steps.{peak_in, State, state, empty, suffix_maxima, suffix_maxima_to, created, serves, refusal, advanced, fed, fed_all, older, reading}
 use Rattle.peak.specs.Claim.{step, Claim}
 use Rattle.peak.proofs.Turns.{too_small, too_large, too_few, in-limits, narrow, enough, last, goes_on, turns, length-suffix_maxima, length-suffix_maxima_to}
 use Rattle.peak.specs.Theorem.{Single, Keeps, Fresh, Holds, narrowest, roomy}
@@ -75,7 +74,7 @@ single-all : (s : State) (h ms : List ℕ) → Single s h → Single (fed_all s 
 single-all s h [] k = rw append-nil k
 single-all s h (m ∷ ms) k = rw (append_snoc h m ms) at (single-all (fed s m) (h ++ m ∷ []) ms (single-fed s h m k))
 
-single-reading : (s : State) (h : List ℕ) → Single s h → reading s ≡ Peak (greatest (last_of 1 h))
+single-reading : (s : State) (h : List ℕ) → Single s h → reading s ≡ Ok (greatest (last_of 1 h))
 unfolding reading older
 single-reading s h k = rw (single-serves s h k, k.turned, max-zero s.peak.recent, k.recent)
 
@@ -194,9 +193,9 @@ keeps-all : (w : ℕ) (s : State) (h ms : List ℕ) → Keeps w s h → Keeps w 
 keeps-all w s h [] k = rw append-nil k
 keeps-all w s h (m ∷ ms) k = rw (append_snoc h m ms) at (keeps-all w (fed s m) (h ++ m ∷ []) ms (keeps-fed w s h m k))
 
-keeps-reading : (w : ℕ) (s : State) (h : List ℕ) → Keeps w s h → reading s ≡ Peak (greatest (last_of w h))
+keeps-reading : (w : ℕ) (s : State) (h : List ℕ) → Keeps w s h → reading s ≡ Ok (greatest (last_of w h))
 unfolding reading older
-keeps-reading w s h k = rw (keeps-serves w s h k) (ap Peak both)
+keeps-reading w s h k = rw (keeps-serves w s h k) (ap Ok both)
   where
     n : ℕ
     n = length k.current
@@ -238,23 +237,23 @@ created-fresh w row = first (ltb w 1) refl
     n = length row
 
     fourth : 1 ≤ w → w ≤ 4096 → w ≤ n → (t : Bool) → leb w 1 ≡ t → Fresh w row
-    fourth a b c true e = let d = leb-true w 1 e in let q : w ≡ 1 = omega arith in narrowest (ap (λ o. o.peak) (in-limits w n a b c) ∙ ap empty q)
-    fourth a b c false e = roomy w (leb-false w 1 e) c (ap (λ o. o.peak) (in-limits w n a b c))
+    fourth a b c true e = let d = leb-true w 1 e in let q : w ≡ 1 = omega arith in narrowest (ap peak_in (in-limits w n a b c) ∙ ap empty q)
+    fourth a b c false e = roomy w (leb-false w 1 e) c (ap peak_in (in-limits w n a b c))
 
     third : 1 ≤ w → w ≤ 4096 → (t : Bool) → ltb n w ≡ t → Fresh w row
-    third a b true e = narrowest (ap (λ o. o.peak) (too_few w n a b (ltb-true n w e)))
+    third a b true e = narrowest (ap peak_in (too_few w n a b (ltb-true n w e)))
     third a b false e = fourth a b (ltb-false n w e) (leb w 1) refl
 
     second : 1 ≤ w → (t : Bool) → ltb 4096 w ≡ t → Fresh w row
-    second a true e = narrowest (ap (λ o. o.peak) (too_large w n a (ltb-true 4096 w e)))
+    second a true e = narrowest (ap peak_in (too_large w n a (ltb-true 4096 w e)))
     second a false e = third a (ltb-false 4096 w e) (ltb n w) refl
 
     first : (t : Bool) → ltb w 1 ≡ t → Fresh w row
-    first true e = narrowest (ap (λ o. o.peak) (too_small w n (ltb-true w 1 e)))
+    first true e = narrowest (ap peak_in (too_small w n (ltb-true w 1 e)))
     first false e = second (ltb-false w 1 e) (ltb 4096 w) refl
 
 -- told of the history
-told : (p : RunningPeak) (row : List ℕ) (fs : List Feed) → reading (fed_all (state p row) (map magnitude (history fs))) ≡ Peak (peak_of p.window fs)
+told : (p : RunningPeak) (row : List ℕ) (fs : List Feed) → reading (fed_all (state p row) (map magnitude (history fs))) ≡ Ok (peak_of p.window fs)
     → serves (fed_all (state p row) (map magnitude (history fs))).peak (length (fed_all (state p row) (map magnitude (history fs))).row) ≡ true → Holds p row fs
 told p row fs r t =
     let e = steps-history (state p row) fs in
@@ -274,10 +273,10 @@ holds_roomy v row fs a b =
     let k : Keeps v (fed_all (state (empty v) row) h) h = keeps-all v (state (empty v) row) [] h (keeps-fresh v row a b) in
     told (empty v) row fs (keeps-reading v _ h k) (keeps-serves v _ h k)
 
-holds : (w : ℕ) (row : List ℕ) (fs : List Feed) → Holds (created w (length row)).peak row fs
+holds : (w : ℕ) (row : List ℕ) (fs : List Feed) → Holds (peak_in (created w (length row))) row fs
 holds w row fs = go (created-fresh w row)
   where
-    go : Fresh w row → Holds (created w (length row)).peak row fs
+    go : Fresh w row → Holds (peak_in (created w (length row))) row fs
     go (narrowest e) = subst (λ p. Holds p row fs) (sym e) (holds_narrowest row fs)
     go (roomy v a b e) = subst (λ p. Holds p row fs) (sym e) (holds_roomy v row fs a b)
 

@@ -1,30 +1,35 @@
 -- The branches of `created`, `serves` and `advanced`, and lengths: what the contracts' proofs cite.
-use Rattle.std.specs.Prelude.{◌≡◌, Bool, List, [], ◌∷◌, ℕ, suc, ◌+◌, max, ◌≤◌, ◌<◌, ltb, leb, length, get_or, set, take, drop}
+use Rattle.std.specs.Prelude.{◌≡◌, Bool, List, [], ◌∷◌, ℕ, suc, ◌+◌, max, ◌≤◌, ◌<◌, ltb, leb, length, get_or, set, take, drop, Ok, Err, ◌⊎◌}
 use Rattle.std.proofs.Math.Path.{refl}
-use Rattle.std.proofs.Common.{sym, ap, ◌∙◌, true≢false, arith, length-take, length-drop, length-append, length-set}
+use Rattle.std.proofs.Common.{sym, ap, ◌∙◌, true≢false, ⊎_elim, arith, length-take, length-drop, length-append, length-set}
 use Rattle.std.proofs.Math.Bool.{true, false, cond}
 use borrow.Author.Tests.{lt-ltb, le-ltb, le-leb, lt-leb, ltb-true, ltb-false, leb-true, leb-false}
 use Rattle.std.proofs.Math.ListN.{get_or-eq_default}
 use Rattle.peak.specs.declared.RunningPeak.{RunningPeak}
-use Rattle.peak.specs.Steps.{State, state, empty, suffix_maxima, suffix_maxima_to, created, serves, advanced, fed, older}
+use Rattle.peak.specs.declared.Refused.{Refused}
+use Rattle.peak.specs.Steps.{Outcome, refused, refusal_in, served, State, state, empty, suffix_maxima, suffix_maxima_to, created, serves, advanced, fed, older}
 use Rattle.peak.specs.Turns.{Next}
 
 -- ---- a fresh one
 
 module _ (w words : ℕ) where
-  pub too_small : w < 1 → created w words ≡ record { peak = empty 1; refusal = 20 }
+  pub too_small : w < 1 → created w words ≡ Err (refused (empty 1))
   unfolding created
   too_small h = rw (lt-ltb w 1 h)
 
-  pub too_large : 1 ≤ w → 4096 < w → created w words ≡ record { peak = empty 1; refusal = 20 }
+  pub too_large : 1 ≤ w → 4096 < w → created w words ≡ Err (refused (empty 1))
   unfolding created
   too_large h k = rw (le-ltb w 1 h, lt-ltb 4096 w k)
 
-  pub too_few : 1 ≤ w → w ≤ 4096 → words < w → created w words ≡ record { peak = empty 1; refusal = 20 }
+  pub too_few : 1 ≤ w → w ≤ 4096 → words < w → created w words ≡ Err (refused (empty 1))
   unfolding created
   too_few h k l = rw (le-ltb w 1 h, le-ltb 4096 w k, lt-ltb words w l)
 
-  pub in-limits : 1 ≤ w → w ≤ 4096 → w ≤ words → created w words ≡ record { peak = empty w; refusal = 0 }
+  -- the code's tests, in their order
+  pub outside : (w < 1) ⊎ (((1 ≤ w) × (4096 < w)) ⊎ ((1 ≤ w) × (w ≤ 4096) × (words < w))) → created w words ≡ Err (refused (empty 1))
+  outside x = ⊎_elim too_small (⊎_elim (λ y. too_large y.0 y.1) (λ y. too_few y.0 y.1 y.2)) x
+
+  pub in-limits : 1 ≤ w → w ≤ 4096 → w ≤ words → created w words ≡ Ok (empty w)
   unfolding created
   in-limits h k l = rw (le-ltb w 1 h, le-ltb 4096 w k, le-ltb words w l)
 
@@ -60,6 +65,26 @@ module _ (p : RunningPeak) (words : ℕ) where
 
   pub room : serves p words ≡ true → 1 < p.window → p.window ≤ words
   room h b = leb-true p.window words (sym (wide (inside h) b) ∙ h)
+
+-- ---- what `served` tells
+
+err_is_not_ok : {p : RunningPeak} {r : Refused} → ◌≡◌ {A = Outcome} (Err r) (Ok p) → ⊥
+err_is_not_ok h = let z : ◌≡◌ {A = ℕ} 20 0 = ap refusal_in h in absurd (omega (arith, z))
+
+module _ (p : RunningPeak) (words : ℕ) where
+  pub served_ok : (q : RunningPeak) → served p words ≡ Ok q → (serves p words ≡ true) × (p ≡ q)
+  served_ok q = go (serves p words) refl
+    where
+      go : (t : Bool) → serves p words ≡ t → cond t (Ok p) (Err (refused p)) ≡ Ok q → (serves p words ≡ true) × (p ≡ q)
+      go true e h = (e, cc)
+      go false e h = absurd (err_is_not_ok h)
+
+  pub served_err : (r : Refused) → served p words ≡ Err r → (serves p words ≡ false) × (refused p ≡ r)
+  served_err r = go (serves p words) refl
+    where
+      go : (t : Bool) → serves p words ≡ t → cond t (Ok p) (Err (refused p)) ≡ Err r → (serves p words ≡ false) × (refused p ≡ r)
+      go true e h = absurd (err_is_not_ok (sym h))
+      go false e h = (e, cc)
 
 -- ---- one magnitude
 
@@ -106,6 +131,9 @@ module _ (p : RunningPeak) (row : List ℕ) where
   pub unturned_older : p.turned ≡ false → older (state p row) ≡ 0
   unfolding older
   unturned_older h = rw h
+
+  pub left_of_none : ((p.turned ≡ true) × (length row ≤ p.place)) ⊎ (p.turned ≡ false) → older (state p row) ≡ 0
+  left_of_none x = ⊎_elim (λ y. past_row y.1) unturned_older x
 
 -- ---- lengths
 pub length-suffix_maxima : (l : List ℕ) → length (suffix_maxima l) ≡ length l

@@ -1,11 +1,33 @@
 -- What each function gives, on every value. Claim.antt says what that is worth.
-use Rattle.std.specs.Prelude.{Bool, true, false, ◌&&◌, ◌||◌, cond, ℕ, ◌+◌, max, ltb, leb, length, get_or, set, take, drop}
+use Rattle.std.specs.Prelude.{Bool, true, false, ◌&&◌, ◌||◌, cond, ℕ, ◌+◌, max, ltb, leb, length, get_or, set, take, drop, Result, Ok, Err}
 use mathlib.Core.List.{List, [], ◌∷◌, ◌++◌, foldl}
 use Rattle.peak.specs.declared.RunningPeak.{RunningPeak}
-use Rattle.peak.specs.declared.Outcome.{Outcome}
-use Rattle.peak.specs.declared.Reading.{Reading}
-use Rattle.peak.specs.declared.Reading.TheVariants.{Peak, Refused}
+use Rattle.peak.specs.declared.Refused.{Refused}
 use Rattle.peak.specs.Peaks.{greatest}
+
+-- the paper's number of a refusal
+abbrev pub number_of : Refused → ℕ
+number_of r = 20
+
+-- what a call hands back: the running peak, or a refusal with the running peak in it
+abbrev pub Outcome : Type 0
+Outcome = Result RunningPeak Refused
+
+abbrev pub refused : RunningPeak → Refused
+refused p = record { peak = p }
+
+abbrev pub peak_in : Outcome → RunningPeak
+peak_in (Ok p) = p
+peak_in (Err r) = r.peak
+
+-- 0 where it is no refusal
+abbrev pub refusal_in : Outcome → ℕ
+refusal_in (Ok p) = 0
+refusal_in (Err r) = number_of r
+
+-- the greatest magnitude, or a refusal
+abbrev pub Reading : Type 0
+Reading = Result ℕ Refused
 
 -- a running peak with its lent row
 pub record State : Type 0 where
@@ -31,14 +53,18 @@ suffix_maxima_to n l = suffix_maxima (take n l) ++ drop n l
 -- So is a lent row of fewer words than w (demand 1).
 unfoldable pub created : (w words : ℕ) → Outcome
 created w words =
-    cond (ltb w 1) (record { peak = empty 1; refusal = 20 })
-    (cond (ltb 4096 w) (record { peak = empty 1; refusal = 20 })
-    (cond (ltb words w) (record { peak = empty 1; refusal = 20 })
-    (record { peak = empty w; refusal = 0 })))
+    cond (ltb w 1) (Err (refused (empty 1)))
+    (cond (ltb 4096 w) (Err (refused (empty 1)))
+    (cond (ltb words w) (Err (refused (empty 1)))
+    (Ok (empty w))))
 
 -- whether a row of this many words serves: it has one for each sample of the window, or the window is 1; and the place is one of the window's
 unfoldable pub serves : RunningPeak → ℕ → Bool
 serves p words = ltb p.place p.window && (leb p.window 1 || leb p.window words)
+
+-- itself, where the row serves
+abbrev pub served : RunningPeak → ℕ → Outcome
+served p words = cond (serves p words) (Ok p) (Err (refused p))
 
 abbrev pub refusal : RunningPeak → ℕ → ℕ
 refusal p words = cond (serves p words) 0 20
@@ -67,4 +93,4 @@ unfoldable pub older : State → ℕ
 older s = cond s.peak.turned (get_or s.row s.peak.place 0) 0
 
 unfoldable pub reading : State → Reading
-reading s = cond (serves s.peak (length s.row)) (Peak (max s.peak.recent (older s))) (Refused 20)
+reading s = cond (serves s.peak (length s.row)) (Ok (max s.peak.recent (older s))) (Err (refused s.peak))

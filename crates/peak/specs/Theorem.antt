@@ -1,12 +1,11 @@
 -- The claim. Since the last turn the row begins with what was fed; once there was a turn, the suffix maxima of what is left of the window before follow.
-use Rattle.std.specs.Prelude.{◌≡◌, false, cond, drop, replicate}
+use Rattle.std.specs.Prelude.{◌≡◌, false, cond, drop, replicate, Ok}
 use mathlib.Core.List.{List, ◌++◌, foldl}
 use Prim.Native.Nat.{ℕ, ◌≤◌, ◌<◌}
 use Rattle.std.proofs.Math.ListN.{length, get_or, take}
 use Rattle.peak.specs.declared.RunningPeak.{RunningPeak}
-use Rattle.peak.specs.declared.Reading.TheVariants.{Peak}
 use Rattle.peak.specs.Peaks.{greatest, last_of, Feed, peak_of}
-use Rattle.peak.specs.Steps.{State, state, empty, created, refusal, reading}
+use Rattle.peak.specs.Steps.{State, peak_in, state, empty, created, refusal, reading}
 use Rattle.peak.specs.Claim.{step}
 
 pub record Single (s : State) (h : List ℕ) : Type 0 where
@@ -33,10 +32,10 @@ pub record Keeps (w : ℕ) (s : State) (h : List ℕ) : Type 0 where
 
 -- a fresh one is empty; its window is 1, or the row has room for it
 pub data Fresh (w : ℕ) (row : List ℕ) : Type 0 where
-  narrowest : (created w (length row)).peak ≡ empty 1 → Fresh w row
-  roomy : (v : ℕ) → 1 < v → v ≤ length row → (created w (length row)).peak ≡ empty v → Fresh w row
+  narrowest : peak_in (created w (length row)) ≡ empty 1 → Fresh w row
+  roomy : (v : ℕ) → 1 < v → v ≤ length row → peak_in (created w (length row)) ≡ empty v → Fresh w row
 
 -- what both fields say of the running peak p
 pub record Holds (p : RunningPeak) (row : List ℕ) (fs : List Feed) : Type 0 where
-  pub answer : reading (foldl step (state p row) fs) ≡ Peak (peak_of p.window fs)
+  pub answer : reading (foldl step (state p row) fs) ≡ Ok (peak_of p.window fs)
   pub taken : refusal (foldl step (state p row) fs).peak (length (foldl step (state p row) fs).row) ≡ 0

@@ -23,10 +23,8 @@ fn events(
 {
     let event = memory::event_at(times, levels, marks, numbers, first);
     let mut out = [event; 256];
-    let mut i = 0;
-    while i < 256 {
+    for i in 0..256 {
         out[i] = memory::event_at(times, levels, marks, numbers, first + i);
-        i = i + 1;
     }
     out
 }
@@ -36,10 +34,8 @@ fn index(times: &Times, levels: &Levels, marks: &Marks, numbers: &Numbers) -> [E
     ensures { result ≡ rows (id_at (before times.now levels.now marks.now numbers.now)) 768 256 }
 {
     let mut out = [EventId(0); 256];
-    let mut i = 0;
-    while i < 256 {
+    for i in 0..256 {
         out[i] = EventId(numbers[memory::INDEX + i]);
-        i = i + 1;
     }
     out
 }
@@ -56,8 +52,7 @@ fn edits(times: &Times, levels: &Levels, marks: &Marks, numbers: &Numbers) -> [S
         },
     };
     let mut out = [unused; 256];
-    let mut i = 0;
-    while i < 256 {
+    for i in 0..256 {
         let k = memory::EDIT_TIMES + 2 * i;
         out[i] = StoredEdit {
             id: EventId(numbers[memory::EDIT_NUMBERS + i]),
@@ -66,19 +61,19 @@ fn edits(times: &Times, levels: &Levels, marks: &Marks, numbers: &Numbers) -> [S
                 fade_out: times[k + 1],
             },
         };
-        i = i + 1;
     }
     out
 }
 
-// The mode that a number says: 0 is All.
+// The mode that a number says: 0 is All. (Every number says one, so a TryFrom is no plainer.)
 fn mode_of(mode: u64) -> ReplayMode
     ensures { result ≡ mode_if (eqb mode 0) }
 {
     if mode == 0 {
-        return ReplayMode::All;
+        ReplayMode::All
+    } else {
+        ReplayMode::None
     }
-    ReplayMode::None
 }
 
 // The engine that the arrays hold.
@@ -90,7 +85,6 @@ pub fn engine(times: &Times, levels: &Levels, marks: &Marks, numbers: &Numbers) 
     let past = events(times, levels, marks, numbers, memory::PAST);
     let active_map = index(times, levels, marks, numbers);
     let items = edits(times, levels, marks, numbers);
-    let mode = mode_of(numbers[memory::MODE]);
     let len = numbers[memory::EDITS] as usize;
     Sequencer {
         ready,
@@ -106,7 +100,7 @@ pub fn engine(times: &Times, levels: &Levels, marks: &Marks, numbers: &Numbers) 
         sample_rate: times[memory::RATE],
         sample_duration: times[memory::DURATION],
         outputs: numbers[memory::CHANNELS] as usize,
-        mode,
+        mode: mode_of(numbers[memory::MODE]),
         next: numbers[memory::NEXT],
         let_go: numbers[memory::LET_GO],
     }

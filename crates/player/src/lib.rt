@@ -29,6 +29,7 @@ pub struct Played {
 }
 
 // A record's refusal or 0, and how many bytes of the output are in use after it.
+// (The number is what its line prints; both are there in either case, since a refused record puts its line too.)
 #[derive(Clone, Copy)]
 struct Done {
     refusal: u64,

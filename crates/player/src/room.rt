@@ -9,30 +9,29 @@ ghost use Rattle.player.specs.Carrying.{tick_bytes, block_bytes, sound_bytes};
 use memory::{CHANNELS, CLOCK, DURATION, Levels, Marks, Numbers, Times};
 use record_output::Form;
 use refusals::{process_refusal, tick_refusal};
-use runs::least;
 use tape::reader::Call;
 
 // The bytes of a tick: four a channel, and none where it is refused.
 fn tick_bytes(outputs: usize, time: f64, duration: f64) -> usize
     ensures { result ≡ tick_bytes outputs time duration }
 {
-    let channels = least(outputs, 8);
-    if tick_refusal(channels, outputs, time, duration) != 0 {
-        return 0;
+    let channels = outputs.min(8);
+    match tick_refusal(channels, outputs, time, duration) {
+        Some(_) => 0,
+        None => 4 * channels,
     }
-    4 * channels
 }
 
 // The bytes of a block: four a sample of each channel, and none where it is refused.
 fn block_bytes(size: u8, outputs: usize, time: f64, duration: f64) -> usize
     ensures { result ≡ block_bytes size outputs time duration }
 {
-    let channels = least(outputs, 8);
+    let channels = outputs.min(8);
     let n = size as usize;
-    if process_refusal(n, 64 * channels, outputs, time, duration) != 0 {
-        return 0;
+    match process_refusal(n, 64 * channels, outputs, time, duration) {
+        Some(_) => 0,
+        None => 4 * (channels * n),
     }
-    4 * (channels * n)
 }
 
 // The bytes of a call's samples.

@@ -1,6 +1,6 @@
 -- Samples that come piece by piece stand one behind the other. Assumes nothing.
 use Prim.Native.Nat.{ℕ, zero, suc, ◌+◌, ◌-◌, ◌≤◌, ◌<◌}
-use mathlib.Core.Path.{◌≡◌, refl, sym, ap, ◌∙◌}
+use mathlib.Core.Path.{◌≡◌, refl, sym, ap, ◌∙◌, subst}
 use mathlib.Core.Bool.{Bool, true, false, ◌&&◌, cond}
 use mathlib.Core.List.{List, [], ◌++◌, append-nil, append_assoc}
 use native.Mathlib.Omega.{arith}
@@ -10,9 +10,11 @@ use lib.Ieee.{Float}
 use lib.ListN.{length, take, drop, length-append, length-drop, take-append-drop}
 use lib.Seq.{sets, sets-eq, length-take-le, take_at, drop_at, drop-drop}
 use Rattle.recording.specs.Samples.{samples_from}
-use Rattle.pool_file.specs.Loading.{answer_of, not_loaded, Fills, Loads}
+use Rattle.std.specs.Prelude.{Option, None, Some, Result, Ok, Err, IfOk, IfSome, IsErr}
+use Rattle.std.proofs.Common.{true≢false}
+use Rattle.pool_file.specs.Loading.{loaded_of, Fills, Loads}
+use Rattle.pool_file.specs.declared.Fault.{Fault}
 use Rattle.pool_file.specs.declared.Filling.{Filling}
-use Rattle.pool_file.specs.declared.Loaded.{Loaded}
 
 -- ---- one piece
 
@@ -22,22 +24,18 @@ length_samples bs zero i = refl
 length_samples bs (suc n) i = ap suc (length_samples bs n (suc i))
 
 -- samples put behind the first `from`
-pub put_fills : (bs : List ℕ) (k : ℕ) {l l' : List Float} {from : ℕ} {s : Filling} → from ≤ length l → (k ≤ length l - from) × (l' ≡ sets l from (samples_from bs k 0)) → (s.ended ≤ 1 → s.count ≡ from + k) → Fills l from l' s
-put_fills bs k {l} {l'} {from} {s} f (h, e) c =
+pub put_fills : (bs : List ℕ) (k : ℕ) {l l' : List Float} {from : ℕ} {r : Result Filling Fault} → from ≤ length l → (k ≤ length l - from) × (l' ≡ sets l from (samples_from bs k 0)) → IfOk r (λ s. s.count ≡ from + k) → Fills l from l' r
+put_fills bs k {l} {l'} {from} {r} f (h, e) c =
     let xs = samples_from bs k 0 in
     let n = length_samples bs k 0 in
     let m : from + length xs ≤ length l = omega arith in
-    record { samples = xs; most = m; lent = e ∙ sets-eq xs l from m; counted = λ q. c q ∙ ap (λ (j : ℕ). from + j) (sym n) }
-
--- what has gone wrong is not counted
-pub wrong : {n : ℕ} (k : ℕ) {A : Type 0} → n ≡ k → 1 < k → n ≤ 1 → A
-wrong {n} k {A} e h q = let no : ⊥ = omega arith in absurd no
+    record { samples = xs; most = m; lent = e ∙ sets-eq xs l from m; counted = subst (λ j. IfOk r (λ s. s.count ≡ from + j)) (sym n) c }
 
 -- ---- pieces one behind the other
 
 -- all samples are counted
 pub record Going (before : List Float) (from : ℕ) (after : List Float) (s : Filling) : Type 0 where
-  pub fills : Fills before from after s
+  pub fills : Fills before from after (Ok s)
   pub all : s.count ≡ from + length fills.samples
   pub long : length after ≡ length before
 
@@ -49,7 +47,7 @@ begins l s h =
         samples = [];
         most = omega arith;
         lent = sym (ap (λ (x : List Float). x ++ drop (s.count + 0) l) (append-nil (take s.count l)) ∙ ap (λ (n : ℕ). take s.count l ++ drop n l) z ∙ take-append-drop s.count l);
-        counted = λ q. sym z;
+        counted = sym z;
       };
       all = sym z;
       long = refl;
@@ -58,8 +56,8 @@ begins l s h =
 pub within : {l₀ l : List Float} {from : ℕ} {s : Filling} → Going l₀ from l s → s.count ≤ length l
 within g = omega (arith, g.all, g.long, g.fills.most)
 
-pub next : {l₀ l l' : List Float} {from : ℕ} {s s' : Filling} → Going l₀ from l s → Fills l s.count l' s' → Fills l₀ from l' s'
-next {l₀} {l} {l'} {from} {s} {s'} g f =
+pub next : {l₀ l l' : List Float} {from : ℕ} {s : Filling} {r : Result Filling Fault} → Going l₀ from l s → Fills l s.count l' r → Fills l₀ from l' r
+next {l₀} {l} {l'} {from} {s} {r} g f =
     let a = g.fills.samples in
     let b = f.samples in
     let n = s.count in
@@ -82,10 +80,10 @@ next {l₀} {l} {l'} {from} {s} {s'} g f =
       samples = a ++ b;
       most = omega arith;
       lent = f.lent ∙ (λ x. t x ++ b ++ d x) ∙ ap (λ (x : List Float). x ++ drop (from + length (a ++ b)) l₀) (append_assoc (take from l₀) a b);
-      counted = λ q. f.counted q ∙ j;
+      counted = subst (λ x. IfOk r (λ t. t.count ≡ x)) j f.counted;
     }
 
-keeps : {l l' : List Float} {from : ℕ} {s : Filling} → Fills l from l' s → length l' ≡ length l
+keeps : {l l' : List Float} {from : ℕ} {r : Result Filling Fault} → Fills l from l' r → length l' ≡ length l
 keeps {l} {l'} {from} f =
     let xs = f.samples in
     let m = f.most in
@@ -96,61 +94,44 @@ keeps {l} {l'} {from} f =
     let n₄ = length-drop (from + length xs) l in
     omega arith
 
-pub goes_on : {l₀ l l' : List Float} {from : ℕ} {s s' : Filling} → Going l₀ from l s → Fills l s.count l' s' → s'.ended ≡ 0 → Going l₀ from l' s'
-goes_on g f e =
+pub goes_on : {l₀ l l' : List Float} {from : ℕ} {s s' : Filling} → Going l₀ from l s → Fills l s.count l' (Ok s') → Going l₀ from l' s'
+goes_on g f =
     let n = next g f in
-    record { fills = n; all = n.counted (omega arith); long = keeps n }
+    record { fills = n; all = n.counted; long = keeps n }
+
+-- what has gone wrong is not counted
+pub wrong : {l l' : List Float} {from : ℕ} {e : Fault} (r : Result Filling Fault) → IsErr r → Fills l from l' (Err e) → Fills l from l' r
+wrong (Ok s) h f = absurd (true≢false (sym h))
+wrong (Err _) h f = record { samples = f.samples; most = f.most; lent = f.lent; counted = tt }
 
 -- ---- what it comes to
 
-pub not-ended : (s : Filling) (room : ℕ) → (s.ended ≡ 1 → ⊥) → answer_of s room ≡ not_loaded
-unfolding answer_of
-not-ended s room h = rw (ne_eqb s.ended 1 h) refl
-
-pub no_room : (s : Filling) (room : ℕ) → room < s.count → answer_of s room ≡ not_loaded
-unfolding answer_of
-no_room s room h = rw (lt-leb s.count room h) (go (eqb s.ended 1))
-  where
-    go : (b : Bool) → cond (b && false) (record { count = s.count; good = true }) not_loaded ≡ not_loaded
-    go true = refl
-    go false = refl
-
-pub ended : (s : Filling) (room : ℕ) → s.ended ≡ 1 → s.count ≤ room → answer_of s room ≡ record { count = s.count; good = true }
-unfolding answer_of
-ended s room e h = rw (eq-eqb s.ended 1 e, le-leb s.count room h) refl
-
 -- no samples
-pub none : (l : List Float) {r : Loaded} → r ≡ not_loaded → Loads l l r
-none l e = record { good = false; samples = []; most = omega arith; lent = refl; is = e }
+pub none : (l : List Float) → Loads l l None
+none l = record { good = false; samples = []; most = omega arith; lent = refl; is = refl }
 
 -- the samples of a filling from the front on
-pub loaded : {l l' : List Float} {s : Filling} {r : Loaded} → Fills l 0 l' s → r ≡ answer_of s (length l') → Loads l l' r
-loaded {l} {l'} {s} {r} f e₀ =
+pub loaded : {l l' : List Float} {s : Filling} → Fills l 0 l' (Ok s) → Loads l l' (Some s.count)
+loaded {l} {l'} {s} f =
     let xs = f.samples in
     let z : 0 + length xs ≡ length xs = omega arith in
-    let m = f.most in
-    go (eqb s.ended 1) refl (omega arith) (f.lent ∙ ap (λ (n : ℕ). xs ++ drop n l) z)
-  where
-    e : r ≡ answer_of s (length l)
-    e = e₀ ∙ ap (answer_of s) (keeps f)
+    let c = f.counted in
+    let k : s.count ≡ length xs = omega arith in
+    record { good = true; samples = xs; most = omega (arith, f.most); lent = f.lent ∙ ap (λ (n : ℕ). xs ++ drop n l) z; is = ap (λ (n : ℕ). Some n) k }
 
-    go : (b : Bool) → eqb s.ended 1 ≡ b → length f.samples ≤ length l → l' ≡ f.samples ++ drop (length f.samples) l → Loads l l' r
-    go true h m lent =
-        let one = eqb-true s.ended 1 h in
-        let c = f.counted (omega arith) in
-        let k : s.count ≡ length f.samples = omega arith in
-        record {
-          good = true;
-          samples = f.samples;
-          most = m;
-          lent = lent;
-          is = e ∙ ended s (length l) one (omega arith) ∙ ap (λ (n : ℕ). record { count = n; good = true }) k;
-        }
-    go false h m lent = record { good = false; samples = f.samples; most = m; lent = lent; is = e ∙ not-ended s (length l) (eqb-false s.ended 1 h) }
+pub failed : {l l' : List Float} {e : Fault} → Fills l 0 l' (Err e) → Loads l l' None
+failed {l} {l'} f =
+    let xs = f.samples in
+    let z : 0 + length xs ≡ length xs = omega arith in
+    record { good = false; samples = xs; most = omega (arith, f.most); lent = f.lent ∙ ap (λ (n : ℕ). xs ++ drop n l) z; is = refl }
 
-pub bounded : {l l' : List Float} {r : Loaded} → Loads l l' r → r.count ≤ length l
-bounded {l} {l'} {r} a = go a.good (ap (λ (x : Loaded). x.count) a.is) a.most
+pub not_loaded : {l l' : List Float} (r : Result ℕ Fault) → IsErr r → Loads l l' None → Loads l l' (loaded_of r)
+not_loaded (Ok n) h a = absurd (true≢false (sym h))
+not_loaded (Err _) h a = a
+
+pub bounded : {l l' : List Float} {r : Option ℕ} → Loads l l' r → IfSome r (λ n. n ≤ length l)
+bounded {l} {l'} {r} a = go a.good a.is a.most
   where
-    go : (b : Bool) {n : ℕ} → r.count ≡ (cond b (record { count = n; good = true }) not_loaded).count → n ≤ length l → r.count ≤ length l
-    go true e m = omega arith
-    go false e m = omega arith
+    go : (b : Bool) {n : ℕ} → r ≡ cond b (Some n) None → n ≤ length l → IfSome r (λ n. n ≤ length l)
+    go true e m = subst (λ r. IfSome r (λ n. n ≤ length l)) (sym e) m
+    go false e m = subst (λ r. IfSome r (λ n. n ≤ length l)) (sym e) tt

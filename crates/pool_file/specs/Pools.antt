@@ -1,9 +1,8 @@
 -- The pool that clips read. Of a file: where its samples stand. A WAV's chunks are a name, a length and so many bytes, filled up to an even number; a file that is no RIFF is all samples. They run.
-use Rattle.std.specs.Prelude.{ℕ, zero, suc, ◌+◌, ◌%◌, ◌≡◌, refl, Bool, true, false, ◌&&◌, ◌||◌, cond, List, [], ◌∷◌, ◌++◌, eqb, ltb, length, drop, Float}
+use Rattle.std.specs.Prelude.{ℕ, zero, suc, ◌+◌, ◌%◌, ◌≡◌, refl, Bool, true, false, ◌&&◌, ◌||◌, cond, List, [], ◌∷◌, ◌++◌, eqb, ltb, length, drop, Float, Option, None, Some}
 use Rattle.listing.specs.Ascii.{ascii}
 use Rattle.tape.specs.Fields.{field, from_little_endian}
 use Rattle.tape.specs.Pool.{trail_pool}
-use Rattle.pool_file.specs.declared.Loaded.{Loaded}
 use Rattle.pool_file.specs.declared.Place.{Place}
 
 -- names as the little-endian numbers that their letters are
@@ -41,30 +40,31 @@ unfoldable pub known_by : (file : List ℕ) → (at : ℕ) → (known : Bool) �
 unfolding mono_float
 known_by file at known = cond (eqb (field file at 4) format) (mono_float file (at + 8)) known
 
-abbrev pub nowhere : Place
-nowhere = record { from = 0; size = 0; known = false }
-
--- the chunk `data`, from a chunk at a place on; the format is known by the last chunk `fmt ` before it. A chunk whose first 8 bytes are not all at hand, or begin behind 65,536, is not looked at.
-unfoldable pub data_from : (turns : ℕ) → (file : List ℕ) → (at : ℕ) → (known : Bool) → Place
+-- the chunk `data`, from a chunk at a place on, where the format is known, by the last chunk `fmt ` before it. A chunk whose first 8 bytes are not all at hand, or begin behind 65,536, is not looked at.
+unfoldable pub data_from : (turns : ℕ) → (file : List ℕ) → (at : ℕ) → (known : Bool) → Option Place
 unfolding known_by
-data_from zero file at known = nowhere
+data_from zero file at known = None
 data_from (suc k) file at known =
     let size = field file (at + 4) 4 in
     let next = data_from k file (at + 8 + size + size % 2) (known_by file at known) in
-    cond (ltb 65_536 at || ltb (length file) (at + 8)) nowhere (cond (eqb (field file at 4) data') (record { from = at + 8; size = size; known = known }) next)
+    cond (ltb 65_536 at || ltb (length file) (at + 8)) None (cond (eqb (field file at 4) data') (cond known (Some (record { from = at + 8; size = size })) None) next)
 
-unfoldable pub place_of : (file : List ℕ) → Place
+unfoldable pub place_of : (file : List ℕ) → Option Place
 unfolding data_from
-place_of file = cond (eqb (field file 0 4) riff) (data_from (length file) file 12 false) (record { from = 0; size = 18_446_744_073_709_551_615; known = true })
+place_of file = cond (eqb (field file 0 4) riff) (data_from (length file) file 12 false) (Some (record { from = 0; size = 18_446_744_073_709_551_615 }))
 
--- computed: a chunk `data` of 8 bytes; where its size is cut, it is not looked at
-pub cut_chunk : (place_of (ascii "RIFF....WAVEdata" ++ (8 ∷ 0 ∷ 0 ∷ 0 ∷ [])) ≡ record { from = 20; size = 8; known = false }) × (place_of (ascii "RIFF....WAVEdata" ++ (8 ∷ 0 ∷ [])) ≡ nowhere)
+-- computed: a chunk `data` of 8 bytes, where the format is known and where it is not; where its size is cut, it is not looked at
+pub cut_chunk :
+    (data_from 24 (ascii "RIFF....WAVEdata" ++ (8 ∷ 0 ∷ 0 ∷ 0 ∷ [])) 12 true ≡ Some (record { from = 20; size = 8 }))
+    × (place_of (ascii "RIFF....WAVEdata" ++ (8 ∷ 0 ∷ 0 ∷ 0 ∷ [])) ≡ None)
+    × (data_from 24 (ascii "RIFF....WAVEdata" ++ (8 ∷ 0 ∷ [])) 12 true ≡ None)
+    × (place_of (ascii "RIFF....WAVEdata" ++ (8 ∷ 0 ∷ [])) ≡ None)
 unfolding place_of data_from known_by mono_float field from_little_endian
-cut_chunk = (refl, refl)
+cut_chunk = (refl, refl, refl, refl)
 
 -- document 01's pool at the front of a pool that has room for its 4,096 samples
-unfoldable pub trail_loaded : (room : ℕ) → Loaded
-trail_loaded room = cond (ltb room 4_096) (record { count = 0; good = false }) (record { count = 4_096; good = true })
+unfoldable pub trail_loaded : (room : ℕ) → Option ℕ
+trail_loaded room = cond (ltb room 4_096) None (Some 4_096)
 
 unfoldable pub with_trail_pool : (pool : List Float) → List Float
 with_trail_pool pool = cond (ltb (length pool) 4_096) pool (trail_pool ++ drop 4_096 pool)

@@ -3,16 +3,18 @@
 // specs/Pools.antt.
 #![tactic(auto)]
 
-ghost use Rattle.std.specs.Prelude.{◌≡◌, ◌-◌, ◌≤◌, length, take, drop, replicate, ◌++◌};
+ghost use Rattle.std.specs.Prelude.{◌≡◌, ◌-◌, ◌≤◌, length, take, replicate, IfOk, IfSome};
 ghost use Rattle.std.proofs.lemmas.List.Edits.{sets};
 ghost use Rattle.floats.specs.Arithmetic.{zeroᶠ};
 ghost use Rattle.recording.specs.Samples.{samples_from};
-ghost use Rattle.pool_file.specs.Loading.{ended_by, answer_of, not_loaded, Fills, Loads};
-ghost use Rattle.pool_file.specs.Pools.{is_option, option_line, mono_float, known_by, place_of, nowhere as no_place, trail_loaded, with_trail_pool};
+ghost use Rattle.pool_file.specs.Loading.{loaded_of, Fills, Loads};
+ghost use Rattle.pool_file.specs.Pools.{is_option, option_line, mono_float, known_by, place_of, trail_loaded, with_trail_pool};
 
+use std::fmt;
 use std::io::Read;
 use std::rt::Files;
 use tape::fields;
+use tape_input::Unread;
 
 // Room for the longest pool.
 pub fn room() -> [f32; 262144]
@@ -25,22 +27,11 @@ pub fn room() -> [f32; 262144]
 // The same room, as a number of samples.
 pub const ROOM: usize = 262144;
 
-// Where the samples stand in a file, and how many bytes they take; `known` where they are samples of one channel of 32-bit floats.
+// Where the samples stand in a file, and how many bytes they take.
 #[derive(Clone, Copy)]
 struct Place {
     from: usize,
     size: usize,
-    known: bool,
-}
-
-fn nowhere() -> Place
-    ensures { result ≡ no_place }
-{
-    Place {
-        from: 0,
-        size: 0,
-        known: false,
-    }
 }
 
 // Whether a format is one channel of IEEE floats of 32 bits, by its number or, in the long form, by that of its kind.
@@ -72,41 +63,34 @@ fn known_by(head: &[u8], at: usize, known: bool) -> bool
     known
 }
 
-// The chunk `data` of a WAV, among the file's first bytes; a file that is no RIFF is all samples.
-fn find_samples(head: &[u8]) -> Place
+// The chunk `data` of a WAV of one channel of 32-bit floats, among the file's first bytes; a file that is no RIFF is all samples.
+fn find_samples(head: &[u8]) -> Option<Place>
     ensures { result ≡ place_of head.now }
 {
     if fields::word32(head, 0) != 0x4646_4952 {
-        return Place {
+        return Some(Place {
             from: 0,
             size: usize::MAX,
-            known: true,
-        };
+        });
     }
     let mut at: usize = 12;
     let mut known = false;
-    let mut turns = head.len();
-    while turns > 0 {
-        turns = turns - 1;
+    for _ in 0..head.len() {
         if 65536 < at {
-            return nowhere();
+            return None;
         }
         if head.len() < at + 8 {
-            return nowhere();
+            return None;
         }
         let name = fields::word32(head, at);
         let size = fields::word32(head, at + 4) as usize;
         if name == 0x6174_6164 {
-            return Place {
-                from: at + 8,
-                size,
-                known,
-            };
+            return known.then_some(Place { from: at + 8, size });
         }
         known = known_by(head, at, known);
         at = at + 8 + size + size % 2;
     }
-    nowhere()
+    None
 }
 
 // Whether an argument is `--pool`, behind which the file's name stands.
@@ -126,42 +110,39 @@ pub fn option_line() -> [u8; 124]
     *b"Clips read from FILE, a WAV of one channel of 32-bit floats or a file of such samples; without it, from document 01's pool.\n"
 }
 
-// How many samples a pool has; `good` where it can be used.
+// Why a file's samples are not a pool.
 #[derive(Clone, Copy)]
-pub struct Loaded {
-    pub count: usize,
-    pub good: bool,
+enum Fault {
+    Unknown,
+    Unread,
+    NoRoom,
 }
 
-fn refused<E: Eprint>(rt: &E, text: &[u8]) -> Loaded
-    ensures { result ≡ not_loaded }
-{
-    streams::say(rt, b"POOL: ");
-    streams::say(rt, text);
-    Loaded {
-        count: 0,
-        good: false,
+impl fmt::Display for Fault {
+    fn fmt<W: fmt::Write>(&self, f: &mut fmt::Formatter<W>) -> fmt::Result {
+        match self {
+            Fault::Unknown => f.write_str(
+                "neither samples of 32-bit floats nor a WAV of one channel of them (sox IN -c 1 -e float -b 32 OUT.wav makes one)",
+            ),
+            Fault::Unread => f.write_str("cannot be read"),
+            Fault::NoRoom => f.write_str("more samples than there is room for"),
+        }
     }
 }
 
-// The bytes at hand, those that are still to come, the samples so far, and what ends it: nothing yet (0), the end (1), a read that fails (2), too many samples (3).
+impl From<Unread> for Fault {
+    fn from(_: Unread) -> Fault {
+        Fault::Unread
+    }
+}
+
+// The bytes at hand, those that are still to come, the samples so far, and whether they are all.
 #[derive(Clone, Copy)]
 struct Filling {
     have: usize,
     left: usize,
     count: usize,
-    ended: u64,
-}
-
-fn ends(s: Filling, ended: u64) -> Filling
-    ensures { result ≡ ended_by s ended }
-{
-    Filling {
-        have: s.have,
-        left: s.left,
-        count: s.count,
-        ended,
-    }
+    whole: bool,
 }
 
 // The samples of the first n bytes; how many.
@@ -176,173 +157,116 @@ fn put(buf: &[u8], n: usize, pool: &mut [f32], count: usize) -> usize
 }
 
 // Reads more behind the bytes at hand.
-fn more<R: Read>(from: &mut R, buf: &mut [u8], s: Filling) -> Filling
-    ensures { result.count ≡ s.count }
+fn more<R: Read>(from: &mut R, buf: &mut [u8], s: Filling) -> Result<Filling, Fault>
+    ensures { IfOk result (λ t. t.count ≡ s.count) }
 {
-    let rest = s.have;
-    let came = tape_input::read_on(from, buf, rest);
-    if came.failed {
-        return ends(s, 2);
-    }
-    if buf.len() < rest {
-        return ends(s, 2);
-    }
-    if buf.len() - rest < came.count {
-        return ends(s, 2);
-    }
-    let mut ended: u64 = 0;
-    if came.count == 0 {
-        ended = 1;
-    }
-    if s.left < 4 {
-        ended = 1;
-    }
-    Filling {
-        have: rest + came.count,
-        left: s.left,
-        count: s.count,
-        ended,
-    }
+    let came = tape_input::read_on(from, buf, s.have)?;
+    Ok(Filling {
+        have: s.have + came,
+        whole: came == 0 || s.left < 4,
+        ..s
+    })
 }
 
 // Moves on by the bytes at hand, and reads more.
-fn step<R: Read>(from: &mut R, buf: &mut [u8], pool: &mut [f32], s: Filling) -> Filling
+fn step<R: Read>(
+    from: &mut R,
+    buf: &mut [u8],
+    pool: &mut [f32],
+    s: Filling,
+) -> Result<Filling, Fault>
     requires { s.count ≤ length pool.old }
     ensures { Fills pool.old s.count pool.new result }
 {
-    let n = fields::least(s.have, s.left);
-    let count = s.count;
-    let k = put(buf, n, pool, count);
+    let n = s.have.min(s.left);
+    let k = put(buf, n, pool, s.count);
     if n / 4 != k {
-        return ends(s, 3);
+        return Err(Fault::NoRoom);
     }
-    if pool.len() < count {
-        return ends(s, 3);
-    }
-    if pool.len() - count < k {
-        return ends(s, 3);
-    }
-    let total = count + k;
-    if s.left < 4 * k {
-        return ends(s, 2);
-    }
+    let total = s.count + k;
+    let have = tape_input::shift(buf, 4 * k, s.have);
     let left = s.left - 4 * k;
-    let rest = tape_input::shift(buf, 4 * k, s.have);
-    let next = Filling {
-        have: rest,
-        left,
-        count: total,
-        ended: 0,
-    };
-    more(from, buf, next)
+    more(
+        from,
+        buf,
+        Filling {
+            have,
+            left,
+            count: total,
+            whole: false,
+        },
+    )
 }
 
 // All the samples of the file, whose bytes at hand are samples from the first on.
-fn fill<R: Read>(from: &mut R, buf: &mut [u8], pool: &mut [f32], start: Filling) -> Filling
+fn fill<R: Read>(
+    from: &mut R,
+    buf: &mut [u8],
+    pool: &mut [f32],
+    start: Filling,
+) -> Result<Filling, Fault>
     requires { start.count ≤ length pool.old }
     ensures { Fills pool.old start.count pool.new result }
 {
     let mut s = start;
-    let mut turns = u64::MAX;
-    while turns > 0 {
-        turns = turns - 1;
-        s = step(from, buf, pool, s);
-        if s.ended != 0 {
-            return s;
+    for _ in 0..u64::MAX {
+        s = step(from, buf, pool, s)?;
+        if s.whole {
+            return Ok(s);
         }
     }
-    s
+    Err(Fault::NoRoom)
 }
 
-// What a pool with so much room came to.
-fn answer<E: Eprint>(rt: &E, s: Filling, room: usize) -> Loaded
-    ensures { result ≡ answer_of s room }
-{
-    if s.ended == 2 {
-        return refused(rt, b"cannot be read\n");
-    }
-    if s.ended != 1 {
-        return refused(rt, b"more samples than there is room for\n");
-    }
-    if room < s.count {
-        return refused(rt, b"more samples than there is room for\n");
-    }
-    Loaded {
-        count: s.count,
-        good: true,
-    }
-}
-
-// Puts the samples of an open file into `pool`.
-fn load_from<E: Eprint, R: Read>(rt: &E, from: &mut R, pool: &mut [f32]) -> Loaded
-    ensures bound { result.count ≤ length pool.old }
-    ensures lent { Loads pool.old pool.new result }
+// Puts the samples of an open file into `pool`, and answers how many.
+fn load_from<R: Read>(from: &mut R, pool: &mut [f32]) -> Result<usize, Fault>
+    ensures { Loads pool.old pool.new (loaded_of result) }
 {
     let mut buf = [0u8; 65536];
     let n = streams::read_full(from, &mut buf);
-    let p = find_samples(&buf[..n]);
-    if !p.known {
-        return refused(
-            rt,
-            b"neither samples of 32-bit floats nor a WAV of one channel of them (sox IN -c 1 -e float -b 32 OUT.wav makes one)\n",
-        );
-    }
+    let p = find_samples(&buf[..n]).ok_or(Fault::Unknown)?;
     let have = tape_input::shift(&mut buf, p.from, n);
-    let s = Filling {
+    let start = Filling {
         have,
         left: p.size,
         count: 0,
-        ended: 0,
+        whole: false,
     };
-    let end = fill(from, &mut buf, pool, s);
-    answer(rt, end, pool.len())
+    let all = fill(from, &mut buf, pool, start)?;
+    Ok(all.count)
 }
 
-// Puts the samples of the file that a path names into `pool`. What is wrong is said on standard error.
-pub fn load<R: Files + Eprint>(rt: &R, path: &[u8], pool: &mut [f32]) -> Loaded
-    ensures bound { result.count ≤ length pool.old }
+// Puts the samples of the file that a path names into `pool`, and answers how many. What is wrong is said on standard error.
+pub fn load<R: Files + Eprint>(rt: &R, path: &[u8], pool: &mut [f32]) -> Option<usize>
+    ensures bound { IfSome result (λ n. n ≤ length pool.old) }
     ensures lent { Loads pool.old pool.new result }
 {
-    match streams::open(rt, path) {
-        Ok(mut file) => load_from(rt, &mut file, pool),
+    let mut file = match streams::open(rt, path) {
+        Ok(file) => file,
         Err(error) => {
             streams::fail(rt, path, &error);
-            Loaded {
-                count: 0,
-                good: false,
-            }
+            return None;
         }
-    }
-}
-
-// Puts samples at the front of `pool`.
-fn put_front(samples: &[f32], pool: &mut [f32])
-    requires { length samples.now ≤ length pool.old }
-    ensures { pool.new ≡ samples.now ++ drop (length samples.now) pool.old }
-{
-    let mut i: usize = 0;
-    while i < samples.len() {
-        pool[i] = samples[i];
-        i = i + 1;
+    };
+    match load_from(&mut file, pool) {
+        Ok(count) => Some(count),
+        Err(fault) => {
+            let _ = eprint!(rt; "POOL: {fault}\n");
+            None
+        }
     }
 }
 
 // Puts document 01's pool at the front of `pool`, where it has room, and answers its length.
-pub fn put_trail_pool(pool: &mut [f32]) -> Loaded
-    ensures count_in_bounds { result.count ≤ length pool.old }
+pub fn put_trail_pool(pool: &mut [f32]) -> Option<usize>
+    ensures count_in_bounds { IfSome result (λ n. n ≤ length pool.old) }
     ensures value { result ≡ trail_loaded (length pool.old) }
     ensures pool_after { pool.new ≡ with_trail_pool pool.old }
 {
     if pool.len() < 4096 {
-        return Loaded {
-            count: 0,
-            good: false,
-        };
+        return None;
     }
     let samples = tape::pool::trail_pool();
-    put_front(&samples, pool);
-    Loaded {
-        count: 4096,
-        good: true,
-    }
+    pool[..4096].copy_from_slice(&samples);
+    Some(4096)
 }

@@ -1,12 +1,12 @@
 -- Document 02, Paper 14: values of the definitions, computed.
 -- The expected ones are document 01's (proof sheet, case 1), exact arithmetic by hand, or the Rust's.
-use Rattle.std.specs.Prelude.{◌≡◌, refl, true, false, List, [], ◌∷◌, ◌++◌, map, ℕ, pos, negsuc, Float, replicate}
+use Rattle.std.specs.Prelude.{◌≡◌, refl, true, false, List, [], ◌∷◌, ◌++◌, map, pos, negsuc, Float, replicate}
 use Rattle.std.specs.Float.{nan, inf, fin, binary32}
 use Rattle.std.specs.Float.Ieee.{round, mul, of_bits, to_bits}
 use Rattle.floats.specs.Arithmetic.{zeroᶠ, halfᶠ, oneᶠ}
 use Rattle.math.specs.Curves.{smooth}
 use Rattle.runs.specs.Walk.{walk}
-use Rattle.preview.specs.Preview.{entry, multiplied, refusal, previewed}
+use Rattle.preview.specs.Preview.{entry, refusal, previewed}
 
 -- "entry k is smooth5 at k/1024": case 1 of document 01, at 0, 1/4, 1/2, 3/4 and 1: 0, 53/512, 1/2, 459/512, 1
 quarters : map entry (0 ∷ 256 ∷ 512 ∷ 768 ∷ 1024 ∷ []) ≡ zeroᶠ ∷ fin false 53 (negsuc 8) ∷ halfᶠ ∷ fin false 459 (negsuc 8) ∷ oneᶠ ∷ []

@@ -13,9 +13,8 @@ use Rattle.std.specs.Float.Ieee.Scale.{round_same}
 use Rattle.event.specs.declared.Fade.TheVariants.{Smooth}
 use Rattle.event.specs.Fades.{curve}
 use Rattle.event.specs.Sources.{steps}
-use Rattle.floats.specs.Arithmetic.{◌+ˢ◌, ◌×ˢ◌}
+use Rattle.floats.specs.Arithmetic.{◌+ˢ◌}
 use Rattle.ledger.specs.BlockSamples.{faded_all, faded}
-use Rattle.math.specs.Curves.{smooth}
 use Rattle.runs.specs.Walk.{walk}
 use Rattle.preview.specs.FadeIn.{step}
 use Rattle.preview.specs.Preview.{phase, entry, IsTable, gain_at, multiplied, previewed}

@@ -1,10 +1,11 @@
 -- Paper 14, "The standard fade from a printed table": "The layout preview draws only the house fade, 1,024 samples, smooth."
-use Rattle.std.specs.Prelude.{◌≡◌, Bool, true, false, cond, List, ℕ, ◌+◌, ◌-◌, ◌<◌, leb, Float, length, get_or}
+use Rattle.std.specs.Prelude.{◌≡◌, Bool, true, false, cond, List, ℕ, ◌+◌, ◌-◌, ◌<◌, leb, Float, length, get_or, Result, Ok, Err}
 use Rattle.std.specs.Float.{nan, binary32}
 use Rattle.std.specs.Float.Ieee.{round}
 use Rattle.floats.specs.Arithmetic.{◌×ˢ◌, zeroᶠ, oneᶠ}
 use Rattle.math.specs.Curves.{smooth}
 use Rattle.runs.specs.Walk.{walk}
+use Rattle.preview.specs.declared.Refused.{Refused}
 
 -- the f32 k/1024, which is exact (`phase-exact` of specs.FadeIn)
 abbrev pub phase : ℕ → Float
@@ -30,6 +31,14 @@ multiplied gains rising k l = walk (λ j a. a ×ˢ gain_at gains rising j) (λ j
 -- "A first entry above 1,024 is refused as 24, and the run is left as it came."
 abbrev pub refusal : ℕ → ℕ
 refusal k = cond (leb k 1024) 0 24
+
+-- the number of a refusal, and of an answer; 0 of one that refuses nothing
+abbrev pub number_of : Refused → ℕ
+number_of r = 24
+
+abbrev pub refusal_in : Result (Unit {0}) Refused → ℕ
+refusal_in (Ok u) = 0
+refusal_in (Err r) = number_of r
 
 abbrev pub previewed : (gains : List Float) → (rising : Bool) → (k : ℕ) → List Float → List Float
 previewed gains rising k l = cond (leb k 1024) (multiplied gains rising k l) l

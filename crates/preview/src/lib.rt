@@ -4,9 +4,22 @@
 mod entries;
 
 ghost use Rattle.std.specs.Prelude.{◌≡◌};
-ghost use Rattle.preview.specs.Preview.{IsTable, gain_at, refusal, previewed};
+ghost use Rattle.preview.specs.Preview.{IsTable, gain_at, number_of, refusal_in, refusal, previewed};
 
 use entries::ENTRIES;
+
+// The first entry is above 1,024.
+#[derive(Clone, Copy, PartialEq, Eq)]
+pub struct Refused;
+
+impl Refused {
+    // The paper's number.
+    pub fn number(self) -> u64
+        ensures { result ≡ number_of self }
+    {
+        24
+    }
+}
 
 // The table, to be made once and lent to every preview: each function that names the constant makes it anew.
 pub fn table() -> [f32; 1025]
@@ -31,17 +44,20 @@ fn gain(gains: &[f32; 1025], rising: bool, j: usize) -> f32
     gains[1024 - j]
 }
 
-// Multiplies a run by the entries from `first` on, rising or falling. The answer is 0, or the refusal 24.
-pub fn preview(run: &mut [f32], gains: &[f32; 1025], first: usize, rising: bool) -> u64
-    ensures { (result ≡ refusal first) × (run.new ≡ previewed gains.now rising first run.old) }
+// Multiplies a run by the entries from `first` on, rising or falling. A first entry above 1,024 is refused as 24, and the run stays.
+pub fn preview(
+    run: &mut [f32],
+    gains: &[f32; 1025],
+    first: usize,
+    rising: bool,
+) -> Result<(), Refused>
+    ensures { (refusal_in result ≡ refusal first) × (run.new ≡ previewed gains.now rising first run.old) }
 {
     if first > 1024 {
-        return 24;
+        return Err(Refused);
     }
-    let mut i = 0;
-    while i < run.len() {
-        run[i] = run[i] * gain(gains, rising, first + i);
-        i += 1;
+    for (i, sample) in run.iter_mut().enumerate() {
+        *sample *= gain(gains, rising, first + i);
     }
-    0
+    Ok(())
 }

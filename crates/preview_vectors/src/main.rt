@@ -2,35 +2,24 @@
 // The file `stdout` was made by the Rust: see oracle/src/bin/previewvectors.rs.
 #![tactic(auto)]
 
-ghost use Rattle.std.specs.Prelude.{◌≤◌, length};
+ghost use Rattle.std.specs.Prelude.{◌≤◌};
 
 use std::io;
 use std::io::{BufReader, BufWriter, Read, Write};
 
-fn word(a: u8, b: u8, c: u8, d: u8) -> u32 {
-    a as u32 + 256 * (b as u32) + 65536 * (c as u32) + 16777216 * (d as u32)
+// The little-endian number of four bytes from place `at` on.
+fn word(bytes: &[u8; 262], at: usize) -> u32
+    requires { at ≤ 258 }
+{
+    u32::from_le_bytes([bytes[at], bytes[at + 1], bytes[at + 2], bytes[at + 3]])
 }
 
 fn samples(bytes: &[u8; 262]) -> [f32; 64] {
     let mut run = [0.0f32; 64];
-    let mut i: usize = 0;
-    while i < 64 {
-        let at = 6 + 4 * i;
-        run[i] = float_bits::f32_from_bits(word(
-            bytes[at],
-            bytes[at + 1],
-            bytes[at + 2],
-            bytes[at + 3],
-        ));
-        i = i + 1;
+    for i in 0..64 {
+        run[i] = float_bits::f32_from_bits(word(bytes, 6 + 4 * i));
     }
     run
-}
-
-fn count(b: u8) -> usize
-    ensures { result ≤ 64 }
-{
-    if b <= 64 { b as usize } else { 64 }
 }
 
 // The run, previewed and printed.
@@ -41,7 +30,11 @@ fn show<W: Write>(
     first: usize,
     rising: bool,
 ) -> io::Result<bool> {
-    write!(out, "{} ", preview::preview(run, gains, first, rising))?;
+    let refusal = match preview::preview(run, gains, first, rising) {
+        Ok(()) => 0,
+        Err(refused) => refused.number(),
+    };
+    write!(out, "{refusal} ")?;
     let mut text = [0u8; 576];
     let n = listing::samples_line(run, &mut text);
     if 576 < n {
@@ -58,15 +51,16 @@ fn step<R: Read, W: Write>(from: &mut R, out: &mut W, gains: &[f32; 1025]) -> io
         return Ok(false);
     }
     let mut run = samples(&bytes);
-    let n = count(bytes[5]);
-    let first = word(bytes[0], bytes[1], bytes[2], bytes[3]) as usize;
-    show(out, &mut run[0..n], gains, first, bytes[4] == 1)
+    let n = usize::from(bytes[5]).min(64);
+    let first = word(&bytes, 0) as usize;
+    show(out, &mut run[..n], gains, first, bytes[4] == 1)
 }
 
 fn main(rt: HostRuntime) -> io::Result<()> {
     let gains = preview::table();
     let mut from = BufReader::new(rt.alloc(), rt.stdin())?;
     let mut out = BufWriter::new(rt.alloc(), rt.stdout())?;
+    // A `while` would have to be shown to end, which the length of the input does not say.
     for _ in 0..u64::MAX {
         if !step(&mut from, &mut out, &gains)? {
             break;

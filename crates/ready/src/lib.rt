@@ -2,7 +2,10 @@
 // `Event::precedes` is the only comparison. A count above 256 is corrupt: push and pop then change nothing.
 #![tactic(auto)]
 
-ghost use Rattle.std.specs.Prelude.{◌≡◌};
+ghost use Rattle.std.specs.Prelude.{◌≡◌, ◌<◌};
+ghost use Rattle.event.specs.Events.{earlier};
+ghost use Rattle.event.specs.Blank.{blank};
+ghost use Rattle.ready.specs.Sift.{rise as risen};
 ghost use Rattle.ready.specs.Waiting.{emptied, peeked, pushed, popped, risen_by};
 
 use event::{Event, EventId, Fade, Source, Unit};
@@ -11,6 +14,24 @@ use event::{Event, EventId, Fade, Source, Unit};
 pub struct Ready {
     pub items: [Event; 256],
     pub len: usize,
+}
+
+// The event goes up from the free place `from`, past every one that it precedes.
+fn rise(items: &mut [Event; 256], from: usize, event: Event)
+    requires { from < 256 }
+    ensures { items.new ≡ risen earlier blank from items.old from event }
+{
+    let mut i = from;
+    while 0 < i {
+        let p = (i - 1) / 2;
+        let parent = items[p];
+        if !event.precedes(parent) {
+            break;
+        }
+        items[i] = parent;
+        i = p;
+    }
+    items[i] = event;
 }
 
 impl Ready {
@@ -49,35 +70,23 @@ impl Ready {
     pub fn push(mut self, event: Event) -> Ready
         ensures { result ≡ pushed self event }
     {
-        let n = self.len;
-        if 256 <= n {
-            return self;
+        if self.len < 256 {
+            rise(&mut self.items, self.len, event);
+            self.len += 1;
         }
-        let mut i = n;
-        while 0 < i {
-            let p = (i - 1) / 2;
-            let parent = self.items[p];
-            if !event.precedes(parent) {
-                break;
-            }
-            self.items[i] = parent;
-            i = p;
-        }
-        self.items[i] = event;
-        self.len = n + 1;
         self
     }
 
     // How many levels an event would rise if it were pushed: one for each that it goes past. None in a full heap.
+    // It goes the way of `rise` and moves nothing, so that the heap is read only: with `rise` it would be copied.
     pub fn rise(self, event: Event) -> usize
         ensures { result ≡ risen_by self event }
     {
-        let n = self.len;
-        if 256 <= n {
+        if 256 <= self.len {
             return 0;
         }
         let mut rise: usize = 0;
-        let mut place = n;
+        let mut place = self.len;
         while 0 < place {
             let p = (place - 1) / 2;
             let above = self.items[p];
@@ -85,7 +94,7 @@ impl Ready {
                 break;
             }
             place = p;
-            rise = rise + 1;
+            rise += 1;
         }
         rise
     }
@@ -95,14 +104,10 @@ impl Ready {
     pub fn pop(mut self) -> Ready
         ensures { result ≡ popped self }
     {
-        let n = self.len;
-        if n == 0 {
+        if self.len == 0 || 256 < self.len {
             return self;
         }
-        if 256 < n {
-            return self;
-        }
-        let m = n - 1;
+        let m = self.len - 1;
         let last = self.items[m];
         let mut i = 0;
         while 2 * i + 1 < m {
@@ -116,20 +121,10 @@ impl Ready {
                     c = r;
                 }
             }
-            let child = self.items[c];
-            self.items[i] = child;
+            self.items[i] = self.items[c];
             i = c;
         }
-        while 0 < i {
-            let p = (i - 1) / 2;
-            let parent = self.items[p];
-            if !last.precedes(parent) {
-                break;
-            }
-            self.items[i] = parent;
-            i = p;
-        }
-        self.items[i] = last;
+        rise(&mut self.items, i, last);
         self.len = m;
         self
     }

@@ -1,5 +1,5 @@
 -- What a refusal's number makes of an outcome, of the samples, and of 13.
-use Rattle.std.proofs.Common.{◌≡◌, ℕ, ◌<◌, ◌≤◌, Bool, true, false, cond, eqb, leb, List, sym, refl, ap, ◌∙◌, eq-eqb, ne_eqb, le-leb}
+use Rattle.std.proofs.Common.{◌≡◌, ℕ, ◌<◌, ◌≤◌, Bool, true, false, cond, eqb, leb, List, sym, ap, ◌∙◌, eq-eqb, ne_eqb, le-leb}
 use lib.Ieee.{Float}
 use borrow.Author.Tests.{lt-leb}
 use Rattle.realseq.specs.declared.SequencerBackend.{SequencerBackend}

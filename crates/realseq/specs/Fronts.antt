@@ -1,6 +1,5 @@
 -- The calls of the front, on every desk.
 use Rattle.std.specs.Prelude.{ℕ, ◌+◌, ◌%◌, ◌^◌, min, Bool, true, false, cond, ◌==◌, nat_le, Float}
-use Rattle.std.specs.Float.Ieee.{sub}
 use Rattle.event.specs.declared.Edit.{Edit}
 use Rattle.event.specs.declared.Event.{Event}
 use Rattle.event.specs.declared.EventId.{EventId}

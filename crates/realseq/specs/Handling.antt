@@ -1,6 +1,5 @@
 -- What handling the queued messages makes of every desk. The desk ledger knows nothing of these; `desk_claim` joins them.
-use Rattle.std.specs.Prelude.{ℕ, zero, suc, min, Bool, cond, List, slice_index_or, Float}
-use Rattle.std.specs.Float.Ieee.{add}
+use Rattle.std.specs.Prelude.{ℕ, zero, suc, min, cond, List, slice_index_or, Float}
 use Rattle.event.specs.declared.Edit.{Edit}
 use Rattle.event.specs.declared.Event.{Event}
 use Rattle.event.specs.declared.ReplayMode.{ReplayMode}

@@ -1,4 +1,5 @@
 pub mod Answers
+pub mod Numbers
 pub mod Queues
 pub mod QueueLaws
 pub mod Handling

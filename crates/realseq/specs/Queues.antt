@@ -5,6 +5,8 @@ use Rattle.sequencer.specs.declared.Sequencer.{Sequencer}
 use Rattle.realseq.specs.declared.SequencerBackend.{SequencerBackend}
 use Rattle.realseq.specs.declared.queues.Message.{Message}
 use Rattle.realseq.specs.declared.queues.Message.TheVariants.{Reset, Push, PushRelative, Edit, EditRelative}
+use Rattle.realseq.specs.declared.queues.Kind.{Kind}
+use Rattle.realseq.specs.declared.queues.Kind.TheVariants as Kinds
 use Rattle.realseq.specs.declared.queues.Slot.{Slot}
 use Rattle.realseq.specs.declared.queues.Messages.{Messages}
 use Rattle.realseq.specs.declared.queues.Returned.{Returned}
@@ -38,6 +40,11 @@ unfoldable pub popped : Messages → Messages
 popped q = cond (q.count == 0) q (record { slots = q.slots; first = (q.first % 64 + 1) % 64; count = q.count - 1 })
 
 -- 0: a reset, 1: a push, 2: an edit
+abbrev pub kind_number : Kind → ℕ
+kind_number Kinds.Reset = 0
+kind_number Kinds.Push = 1
+kind_number Kinds.Edit = 2
+
 abbrev pub kind_of : Message → ℕ
 kind_of Reset = 0
 kind_of (Push e) = 1

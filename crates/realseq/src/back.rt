@@ -8,17 +8,19 @@ use event::MixOrder;
 use refusals::{process_refusal, rate_refusal, tick_refusal};
 
 // The engine's answer as the desk tells it: not what became of an edit.
-fn as_desk(answer: sequencer::Answer) -> Answer
-    ensures { result ≡ as_desk answer }
-{
-    match answer {
-        sequencer::Answer::Number(id) => Answer::Number(id),
-        sequencer::Answer::Applied => Answer::Done,
-        sequencer::Answer::Past => Answer::Done,
-        sequencer::Answer::Stored => Answer::Done,
-        sequencer::Answer::Done => Answer::Done,
-        sequencer::Answer::Rendered(places) => Answer::Rendered(places),
-        sequencer::Answer::Refused(no) => Answer::Refused(no),
+impl From<sequencer::Answer> for Answer {
+    ghost from_gives = { λ answer r. r ≡ as_desk answer };
+
+    fn from(answer: sequencer::Answer) -> Answer {
+        match answer {
+            sequencer::Answer::Number(id) => Answer::Number(id),
+            sequencer::Answer::Applied => Answer::Done,
+            sequencer::Answer::Past => Answer::Done,
+            sequencer::Answer::Stored => Answer::Done,
+            sequencer::Answer::Done => Answer::Done,
+            sequencer::Answer::Rendered(places) => Answer::Rendered(places),
+            sequencer::Answer::Refused(no) => Answer::Refused(no),
+        }
     }
 }
 
@@ -27,13 +29,10 @@ impl SequencerBackend {
     fn after_step(mut self, r: sequencer::Outcome) -> Outcome
         ensures { result ≡ stepped_to self r }
     {
-        let s = r.sequencer;
-        let answer = r.answer;
-        self.sequencer = s;
-        let d = self.send_back_past();
+        self.sequencer = r.sequencer;
         Outcome {
-            backend: d,
-            answer: as_desk(answer),
+            backend: self.send_back_past(),
+            answer: Answer::from(r.answer),
         }
     }
 
@@ -43,16 +42,14 @@ impl SequencerBackend {
             × (out.new ≡ tick_outs order pool.now self out.old) }
     {
         let s = self.sequencer;
-        let no = tick_refusal(out.len(), s.outputs, s.time, s.sample_duration);
-        if no != 0 {
+        if let Some(refusal) = tick_refusal(out.len(), s.outputs, s.time, s.sample_duration) {
             return Outcome {
                 backend: self,
-                answer: Answer::Refused(no),
+                answer: Answer::Refused(refusal.number()),
             };
         }
         let d = self.drain();
-        let s = d.sequencer;
-        let r = s.render_tick(order, pool, out);
+        let r = d.sequencer.render_tick(order, pool, out);
         d.after_step(r)
     }
 
@@ -63,16 +60,20 @@ impl SequencerBackend {
             × (out.new ≡ block_outs order pool.now size self out.old) }
     {
         let s = self.sequencer;
-        let no = process_refusal(size, out.len(), s.outputs, s.time, s.sample_duration);
-        if no != 0 {
+        if let Some(refusal) = process_refusal(
+            size,
+            out.len(),
+            s.outputs,
+            s.time,
+            s.sample_duration,
+        ) {
             return Outcome {
                 backend: self,
-                answer: Answer::Refused(no),
+                answer: Answer::Refused(refusal.number()),
             };
         }
         let d = self.drain();
-        let s = d.sequencer;
-        let r = s.render_block(order, size, pool, out);
+        let r = d.sequencer.render_block(order, size, pool, out);
         d.after_step(r)
     }
 
@@ -80,17 +81,14 @@ impl SequencerBackend {
     pub fn set_sample_rate(self, rate: f64) -> Outcome
         ensures { result ≡ rates self rate }
     {
-        let no = rate_refusal(rate);
-        if no != 0 {
+        if let Some(refusal) = rate_refusal(rate) {
             return Outcome {
                 backend: self,
-                answer: Answer::Refused(no),
+                answer: Answer::Refused(refusal.number()),
             };
         }
         let mut d = self.drain();
-        let s = d.sequencer;
-        let s = s.change_rate(rate);
-        d.sequencer = s;
+        d.sequencer = d.sequencer.change_rate(rate);
         Outcome {
             backend: d,
             answer: Answer::Done,

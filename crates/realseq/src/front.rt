@@ -1,9 +1,10 @@
 // The calls of the front. An accepted one empties the return queue and queues its message; a push takes its number then.
 ghost use Rattle.std.specs.Prelude.{◌≡◌};
 ghost use Rattle.ledger.specs.Calls.{absolute, relative, by_duration, absolute_end, relative_end};
+ghost use Rattle.realseq.specs.Numbers.{refusal_number};
 ghost use Rattle.realseq.specs.Fronts.{queued_with, numbered, push_refused, edit_refused, sends_push, sends_edit, pushes, edits, resets};
 
-use crate::{Answer, Message, Outcome, SequencerBackend};
+use crate::{Answer, Kind, Message, Outcome, Refusal, SequencerBackend};
 use event::{Edit, Event, EventId, Fade, Source};
 use refusals::{edit_limits, held, push_refusal};
 
@@ -12,12 +13,8 @@ impl SequencerBackend {
     fn send(mut self, message: Message) -> SequencerBackend
         ensures { result ≡ queued_with message self }
     {
-        let q = self.messages;
-        let q = q.push(message);
-        self.messages = q;
-        let r = self.returned;
-        let r = r.empty();
-        self.returned = r;
+        self.messages = self.messages.push(message);
+        self.returned = self.returned.empty();
         self
     }
 
@@ -25,9 +22,7 @@ impl SequencerBackend {
     fn take_number(mut self) -> SequencerBackend
         ensures { result ≡ numbered self }
     {
-        let mut s = self.sequencer;
-        s.next = std::num::wrapping_add_u64(s.next, 1);
-        self.sequencer = s;
+        self.sequencer.next = self.sequencer.next.wrapping_add(1);
         self
     }
 
@@ -41,22 +36,20 @@ impl SequencerBackend {
         fade_out: f64,
         source: Source,
         gain: f32,
-    ) -> u64
-        ensures { result ≡ push_refused self start_time end_time lasts fade_in fade_out source gain }
+    ) -> Option<Refusal>
+        ensures { refusal_number result ≡ push_refused self start_time end_time lasts fade_in fade_out source gain }
     {
         let s = self.sequencer;
-        let q = self.messages;
-        let n = held(s.ready_len, s.active_len, s.past_len) + q.tally(1);
-        let no = push_refusal(
+        let n = held(s.ready_len, s.active_len, s.past_len) + self.messages.tally(Kind::Push);
+        if let Some(refusal) = push_refusal(
             start_time, end_time, lasts, fade_in, fade_out, source, gain, n, s.next,
-        );
-        if no != 0 {
-            return no;
+        ) {
+            return Some(Refusal::Engine(refusal));
         }
-        if 64 <= q.count {
-            return 13;
+        if 64 <= self.messages.count {
+            return Some(Refusal::QueueFull);
         }
-        0
+        None
     }
 
     // Queues an event from `start_time` to `until`; `end_time` is the end or the duration as given.
@@ -74,7 +67,7 @@ impl SequencerBackend {
     ) -> Outcome
         ensures { result ≡ sends_push self relative start_time end_time until fade_ease fade_in fade_out source gain }
     {
-        let no = self.push_refusal(
+        if let Some(refusal) = self.push_refusal(
             start_time,
             end_time,
             until - start_time,
@@ -82,11 +75,10 @@ impl SequencerBackend {
             fade_out,
             source,
             gain,
-        );
-        if no != 0 {
+        ) {
             return Outcome {
                 backend: self,
-                answer: Answer::Refused(no),
+                answer: Answer::Refused(refusal.number()),
             };
         }
         let s = self.sequencer;
@@ -109,6 +101,7 @@ impl SequencerBackend {
         }
     }
 
+    // The three pushes have the names and the parameters of the Rust (document 01); what they do is `send_push`.
     // Queues the push of an event from `start_time` to `end_time`, in seconds. Answers its number, or the first refusal that applies.
     pub fn push(
         self,
@@ -172,36 +165,29 @@ impl SequencerBackend {
     }
 
     // 8, 9 as stored plus queued edits, then 13.
-    fn edit_refusal(self, end_time: f64, fade_out: f64) -> u64
-        ensures { result ≡ edit_refused self end_time fade_out }
+    fn edit_refusal(self, end_time: f64, fade_out: f64) -> Option<Refusal>
+        ensures { refusal_number result ≡ edit_refused self end_time fade_out }
     {
-        let no = edit_limits(end_time, fade_out);
-        if no != 0 {
-            return no;
+        if let Some(refusal) = edit_limits(end_time, fade_out) {
+            return Some(Refusal::Engine(refusal));
         }
-        let s = self.sequencer;
-        let stored = s.edit_map;
-        let q = self.messages;
-        if 256 <= stored.len {
-            return 9;
+        let stored = self.sequencer.edit_map.len;
+        if 256 <= stored || 256 <= stored + self.messages.tally(Kind::Edit) {
+            return Some(Refusal::Engine(refusals::Refusal::NoRoom));
         }
-        if 256 <= stored.len + q.tally(2) {
-            return 9;
+        if 64 <= self.messages.count {
+            return Some(Refusal::QueueFull);
         }
-        if 64 <= q.count {
-            return 13;
-        }
-        0
+        None
     }
 
     fn send_edit(self, relative: bool, id: EventId, end_time: f64, fade_out: f64) -> Outcome
         ensures { result ≡ sends_edit self relative id end_time fade_out }
     {
-        let no = self.edit_refusal(end_time, fade_out);
-        if no != 0 {
+        if let Some(refusal) = self.edit_refusal(end_time, fade_out) {
             return Outcome {
                 backend: self,
-                answer: Answer::Refused(no),
+                answer: Answer::Refused(refusal.number()),
             };
         }
         let edit = Edit { end_time, fade_out };
@@ -235,11 +221,10 @@ impl SequencerBackend {
     pub fn queue_reset(self) -> Outcome
         ensures { result ≡ resets self }
     {
-        let q = self.messages;
-        if 64 <= q.count {
+        if 64 <= self.messages.count {
             return Outcome {
                 backend: self,
-                answer: Answer::Refused(13),
+                answer: Answer::Refused(Refusal::QueueFull.number()),
             };
         }
         Outcome {

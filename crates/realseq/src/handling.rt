@@ -3,9 +3,8 @@ ghost use Rattle.std.specs.Prelude.{◌≡◌, min};
 ghost use Rattle.realseq.specs.Handling.{acted, sent_down, sent_ready, past_sent, restarted, until_reset, taken, drained, reset};
 
 use crate::{Message, Returned, SequencerBackend};
-use event::{Edit, ReplayMode};
+use event::{Edit, Event, ReplayMode};
 use ready::Ready;
-use runs::least;
 use sequencer::Sequencer;
 
 // One message; a reset is handled elsewhere, and an edit's answer is dropped.
@@ -16,32 +15,21 @@ fn handle(sequencer: Sequencer, message: Message) -> Sequencer
         Message::Reset => sequencer,
         Message::Push(event) => sequencer.push_event(event),
         Message::PushRelative(event) => sequencer.push_relative_event(event),
-        Message::Edit(id, edit) => {
-            let r = sequencer.change(id, edit);
-            r.sequencer
-        }
+        Message::Edit(id, edit) => sequencer.change(id, edit).sequencer,
         Message::EditRelative(id, edit) => {
-            let moved = Edit {
-                end_time: sequencer.time + edit.end_time,
-                fade_out: edit.fade_out,
-            };
-            let r = sequencer.change(id, moved);
-            r.sequencer
+            let end_time = sequencer.time + edit.end_time;
+            sequencer.change(id, Edit { end_time, ..edit }).sequencer
         }
     }
 }
 
 impl Returned {
-    // The numbers of the finished, from the end.
-    fn push_past(mut self, s: Sequencer) -> Returned
-        ensures { result ≡ sent_down (min s.past_len 256) s.past self }
+    // The numbers of the first `n` events, from the end.
+    fn push_down(mut self, events: &[Event; 256], n: usize) -> Returned
+        ensures { result ≡ sent_down (min n 256) events.now self }
     {
-        let mut i = least(s.past_len, 256);
-        while i > 0 {
-            i = i - 1;
-            let event = s.past[i];
-            let id = event.id;
-            self = self.push(id);
+        for i in (0..n.min(256)).rev() {
+            self = self.push(events[i].id);
         }
         self
     }
@@ -52,30 +40,12 @@ impl Returned {
     {
         let items = s.ready;
         let mut heap = Ready {
-            items: items,
+            items,
             len: s.ready_len,
         };
-        let mut i = least(s.ready_len, 256);
-        while i > 0 {
-            i = i - 1;
-            let event = heap.peek();
-            let id = event.id;
-            self = self.push(id);
+        for _i in 0..s.ready_len.min(256) {
+            self = self.push(heap.peek().id);
             heap = heap.pop();
-        }
-        self
-    }
-
-    // The numbers of the sounding, from the end.
-    fn push_active(mut self, s: Sequencer) -> Returned
-        ensures { result ≡ sent_down (min s.active_len 256) s.active self }
-    {
-        let mut i = least(s.active_len, 256);
-        while i > 0 {
-            i = i - 1;
-            let event = s.active[i];
-            let id = event.id;
-            self = self.push(id);
         }
         self
     }
@@ -87,15 +57,11 @@ impl SequencerBackend {
         ensures { result ≡ past_sent self }
     {
         let s = self.sequencer;
-        let mode = s.mode;
-        match mode {
+        match s.mode {
             ReplayMode::All => self,
             ReplayMode::None => {
-                let q = self.returned;
-                let q = q.push_past(s);
-                self.returned = q;
-                let s = s.release_past();
-                self.sequencer = s;
+                self.returned = self.returned.push_down(&s.past, s.past_len);
+                self.sequencer = s.release_past();
                 self
             }
         }
@@ -107,22 +73,15 @@ impl SequencerBackend {
         ensures { self.new ≡ restarted self.old }
     {
         let s = self.sequencer;
-        let mode = s.mode;
-        match mode {
-            ReplayMode::All => {
-                let s = s.reset();
-                self.sequencer = s;
-            }
+        match s.mode {
+            ReplayMode::All => {}
             ReplayMode::None => {
-                let q = self.returned;
-                let q = q.push_past(s);
+                let q = self.returned.push_down(&s.past, s.past_len);
                 let q = q.push_ready(s);
-                let q = q.push_active(s);
-                self.returned = q;
-                let s = s.reset();
-                self.sequencer = s;
+                self.returned = q.push_down(&s.active, s.active_len);
             }
         }
+        self.sequencer = s.reset();
     }
 
     // The queued messages up to the first reset.
@@ -130,6 +89,7 @@ impl SequencerBackend {
     fn handle_until_reset(&mut self)
         ensures { self.new ≡ until_reset self.old }
     {
+        // This counts nothing: the queue shrinks.
         loop {
             let q = self.messages;
             if q.count == 0 {
@@ -139,11 +99,8 @@ impl SequencerBackend {
             if m.is_reset() {
                 break;
             }
-            let q = q.pop();
-            self.messages = q;
-            let s = self.sequencer;
-            let s = handle(s, m);
-            self.sequencer = s;
+            self.messages = q.pop();
+            self.sequencer = handle(self.sequencer, m);
         }
     }
 
@@ -152,9 +109,7 @@ impl SequencerBackend {
     fn take(&mut self)
         ensures { self.new ≡ taken self.old }
     {
-        let q = self.messages;
-        let q = q.pop();
-        self.messages = q;
+        self.messages = self.messages.pop();
     }
 
     fn queued(&self) -> usize

@@ -1,8 +1,16 @@
 // The desk's two queues of 64. A count above 64 is corrupt: nothing is queued, and no place past an array is read.
 ghost use Rattle.std.specs.Prelude.{◌≡◌};
-ghost use Rattle.realseq.specs.Queues.{no_messages, is_reset, kind_of, counted, tallied, pushed, peeked, popped, no_returned, sent, emptied};
+ghost use Rattle.realseq.specs.Queues.{no_messages, is_reset, kind_number, kind_of, counted, tallied, pushed, peeked, popped, no_returned, sent, emptied};
 
 use event::{Edit, Event, EventId};
+
+// What a message asks for, its times absolute or relative.
+#[derive(Clone, Copy, PartialEq, Eq)]
+pub enum Kind {
+    Reset,
+    Push,
+    Edit,
+}
 
 #[derive(Clone, Copy)]
 pub enum Message {
@@ -27,7 +35,7 @@ pub struct Messages {
     pub count: usize,
 }
 
-// Numbers, oldest first.
+// Numbers, oldest first. It is no ring as `Messages` is: numbers leave all at once, so it has no first place, and the two share no function.
 #[derive(Clone, Copy)]
 pub struct Returned {
     pub ids: [EventId; 64],
@@ -39,37 +47,26 @@ impl Message {
     pub fn is_reset(self) -> bool
         ensures { result ≡ is_reset self }
     {
-        match self {
-            Message::Reset => true,
-            Message::Push(_) => false,
-            Message::PushRelative(_) => false,
-            Message::Edit(_, _) => false,
-            Message::EditRelative(_, _) => false,
-        }
+        matches!(self, Message::Reset)
     }
 
-    // 0: a reset, 1: a push, 2: an edit.
-    fn kind(self) -> u8
-        ensures { result ≡ kind_of self }
+    fn kind(self) -> Kind
+        ensures { kind_number result ≡ kind_of self }
     {
         match self {
-            Message::Reset => 0,
-            Message::Push(_) => 1,
-            Message::PushRelative(_) => 1,
-            Message::Edit(_, _) => 2,
-            Message::EditRelative(_, _) => 2,
+            Message::Reset => Kind::Reset,
+            Message::Push(_) => Kind::Push,
+            Message::PushRelative(_) => Kind::Push,
+            Message::Edit(_, _) => Kind::Edit,
+            Message::EditRelative(_, _) => Kind::Edit,
         }
     }
 
     // 1 where the message is of the kind, else 0.
-    fn counts(self, kind: u8) -> usize
-        ensures { result ≡ counted self kind }
+    fn counts(self, kind: Kind) -> usize
+        ensures { result ≡ counted self (kind_number kind) }
     {
-        let k = self.kind();
-        if k == kind {
-            return 1;
-        }
-        0
+        if self.kind() == kind { 1 } else { 0 }
     }
 }
 
@@ -88,23 +85,15 @@ impl Messages {
         }
     }
 
-    // How many queued messages are of the kind: 1 pushes, 2 edits.
-    pub fn tally(self, kind: u8) -> usize
-        ensures { result ≡ tallied self kind }
+    // How many queued messages are of the kind.
+    pub fn tally(self, kind: Kind) -> usize
+        ensures { result ≡ tallied self (kind_number kind) }
     {
-        let n = self.count;
         let first = self.first % 64;
-        let mut total: usize = 0;
-        let mut i: usize = 0;
-        while i < 64 {
-            if n <= i {
-                break;
-            }
-            let at = (first + i) % 64;
-            let slot = self.slots[at];
-            let message = slot.message;
-            total = total + message.counts(kind);
-            i = i + 1;
+        let mut total = 0;
+        for i in 0..self.count.min(64) {
+            let slot = self.slots[(first + i) % 64];
+            total += slot.message.counts(kind);
         }
         total
     }
@@ -117,10 +106,7 @@ impl Messages {
         if 64 <= n {
             return self;
         }
-        let first = self.first % 64;
-        let at = (first + n) % 64;
-        let slot = Slot { message: message };
-        self.slots[at] = slot;
+        self.slots[(self.first % 64 + n) % 64] = Slot { message };
         self.count = n + 1;
         self
     }
@@ -129,10 +115,7 @@ impl Messages {
     pub fn peek(self) -> Message
         ensures { result ≡ peeked self }
     {
-        let first = self.first % 64;
-        let slot = self.slots[first];
-        let message = slot.message;
-        message
+        self.slots[self.first % 64].message
     }
 
     // The oldest message leaves. An empty queue stays as it is.
@@ -143,8 +126,7 @@ impl Messages {
         if n == 0 {
             return self;
         }
-        let first = self.first % 64;
-        self.first = (first + 1) % 64;
+        self.first = (self.first % 64 + 1) % 64;
         self.count = n - 1;
         self
     }

@@ -169,12 +169,12 @@ module _ (piece : List ℕ) (channels : ℕ) (out₀ : List ℕ) (at : ℕ) wher
   same_out out to left w = sym (length-all (replicate left piece) (text out to)) ∙ ap (λ (t : Text). length t.out) w ∙ length-all (replicate channels piece) (text out₀ at)
 
 -- as many samples as the row has
-pub take-least : (n : ℕ) (row : List Float) {k : ℕ} → k ≡ min n (length row) → take (k - 0) row ≡ take n row
+pub take-least : (n : ℕ) (row : List Float) {k : ℕ} → k ≡ min n (length row) → take k row ≡ take n row
 take-least n row {k} h = go (dec_lt (length row) n)
   where
-    go : Dec (length row < n) → take (k - 0) row ≡ take n row
-    go (yes p) = take_all (k - 0) row (omega arith) ∙ sym (take_all n row (omega arith))
-    go (no p) = ap (λ (j : ℕ). take j row) (let z : k - 0 ≡ n = omega arith in z)
+    go : Dec (length row < n) → take k row ≡ take n row
+    go (yes p) = take_all k row (omega arith) ∙ sym (take_all n row (omega arith))
+    go (no p) = ap (λ (j : ℕ). take j row) (let z : k ≡ n = omega arith in z)
 
 -- ---- what the last record leaves
 

@@ -37,6 +37,11 @@ none_left = record { any = false; kind = 0; refusal = 0; channels = 0; each = 0 
 abbrev pub silent_left : (kind : ℕ) → Left
 silent_left kind = record { any = true; kind = kind; refusal = 0; channels = 0; each = 0 }
 
+-- what a channel leaves: its samples as bytes, or its line
+abbrev pub row_piece : Form → (row : List Float) → List ℕ
+row_piece Bytes row = bytes_of row
+row_piece Lines row = samples_line row
+
 -- in pieces: all channels are equal, and each of them is the first of the row
 abbrev pub pieces : Form → Left → Counts → (row : List Float) → List (List ℕ)
 pieces Bytes l counts row = replicate l.channels (bytes_of (take l.each row))

@@ -6,10 +6,9 @@ ghost use Rattle.std.specs.Prelude.{◌≡◌, [], ◌-◌, ◌≤◌, ltb, leng
 ghost use Rattle.listing.specs.Pieces.{text, add, add_all};
 ghost use Rattle.listing.specs.Text.{samples_line};
 ghost use Rattle.record_output.specs.Bytes.{bytes_of};
-ghost use Rattle.record_output.specs.Lines.{record_line, room_for, none_left, silent_left, pieces_in, Fits, Stands};
+ghost use Rattle.record_output.specs.Lines.{record_line, row_piece, room_for, none_left, silent_left, pieces_in, Fits, Stands};
 ghost use Rattle.record_output.specs.Endings.{is_short, ending, Gives};
 
-use runs::least;
 use sequencer::Counts;
 use tape::reader::Read;
 
@@ -20,6 +19,7 @@ pub enum Form {
     Lines,
 }
 
+// (A refusal is document 01's number, 1, 14 or 15, which the answers of runs hand on.)
 // Why the records stopped: the tape's end; refusal 1, 14 or 15; no room for the next record; fewer bytes left than a record may need, of a tape that goes on.
 #[derive(Clone, Copy)]
 pub enum Pause {
@@ -65,7 +65,7 @@ pub fn silent(kind: u8) -> Left
     }
 }
 
-// A record's line.
+// A record's line. (It and `put_line` stay apart: a closure over the rest would have the same lines, and a contract of its own.)
 fn put_counts(kind: u8, refusal: u64, counts: Counts, out: &mut [u8], at: usize) -> usize
     ensures { text out.new result ≡ add (record_line kind refusal counts) (text out.old at) }
 {
@@ -85,7 +85,7 @@ fn put_counts(kind: u8, refusal: u64, counts: Counts, out: &mut [u8], at: usize)
 }
 
 // A channel's line.
-fn put_row(row: &[f32], out: &mut [u8], at: usize) -> usize
+fn put_line(row: &[f32], out: &mut [u8], at: usize) -> usize
     ensures { text out.new result ≡ add (samples_line row.now) (text out.old at) }
 {
     if out.len() < at {
@@ -95,28 +95,23 @@ fn put_row(row: &[f32], out: &mut [u8], at: usize) -> usize
     at + n
 }
 
-// The row's line, once for each channel.
-fn put_lines(row: &[f32], channels: usize, out: &mut [u8], at: usize) -> usize
-    ensures { text out.new result ≡ add_all (replicate channels (samples_line row.now)) (text out.old at) }
+// A channel's samples as bytes, or its line.
+fn put_row(form: Form, row: &[f32], out: &mut [u8], at: usize) -> usize
+    ensures { text out.new result ≡ add (row_piece form row.now) (text out.old at) }
 {
-    let mut to = at;
-    let mut left = channels;
-    while left > 0 {
-        to = put_row(row, out, to);
-        left = left - 1;
+    match form {
+        Form::Bytes => little_endian::put_samples(row, out, at),
+        Form::Lines => put_line(row, out, at),
     }
-    to
 }
 
-// The row's samples as bytes, once for each channel.
-fn put_channels(row: &[f32], channels: usize, out: &mut [u8], at: usize) -> usize
-    ensures { text out.new result ≡ add_all (replicate channels (bytes_of row.now)) (text out.old at) }
+// The row, once for each channel.
+fn put_channels(form: Form, row: &[f32], channels: usize, out: &mut [u8], at: usize) -> usize
+    ensures { text out.new result ≡ add_all (replicate channels (row_piece form row.now)) (text out.old at) }
 {
     let mut to = at;
-    let mut left = channels;
-    while left > 0 {
-        to = little_endian::put_samples(row, out, to);
-        left = left - 1;
+    for _ in 0..channels {
+        to = put_row(form, row, out, to);
     }
     to
 }
@@ -136,27 +131,19 @@ pub fn leave(
     if !left.any {
         return at;
     }
-    let n = least(left.each, row.len());
-    match form {
-        Form::Bytes => put_channels(&row[0..n], left.channels, out, at),
-        Form::Lines => {
-            let to = put_counts(left.kind, left.refusal, counts, out, at);
-            put_lines(&row[0..n], left.channels, out, to)
-        }
-    }
+    let n = left.each.min(row.len());
+    let to = match form {
+        Form::Bytes => at,
+        Form::Lines => put_counts(left.kind, left.refusal, counts, out, at),
+    };
+    put_channels(form, &row[..n], left.channels, out, to)
 }
 
 // Whether fewer bytes are left than a record may need, of a tape that goes on: reading one needs no more than 47 (tape, specs/Window).
 pub fn is_short(whole: bool, len: usize, at: usize) -> bool
     ensures { result ≡ is_short whole len at }
 {
-    if whole {
-        return false;
-    }
-    if len < at {
-        return true;
-    }
-    len - at < 47
+    !whole && len.saturating_sub(at) < 47
 }
 
 // Whether there is no room for the lines of any record: 108 bytes, and eight lines of 576. Bytes are looked at when they are known.
@@ -167,16 +154,6 @@ pub fn is_full(form: Form, room: usize) -> bool
         Form::Bytes => false,
         Form::Lines => room < 4716,
     }
-}
-
-// How many bytes there are from a place on.
-fn room_at(len: usize, at: usize) -> usize
-    ensures { result ≡ len - at }
-{
-    if len < at {
-        return 0;
-    }
-    len - at
 }
 
 // How many bytes of the output are in use, and what stopped the tape.
@@ -194,7 +171,7 @@ pub fn unread(form: Form, r: Read, counts: Counts, out: &mut [u8], at: usize) ->
 {
     match r {
         Read::Refused { kind, number } => {
-            if is_full(form, room_at(out.len(), at)) {
+            if is_full(form, out.len().saturating_sub(at)) {
                 return Stop {
                     used: at,
                     pause: Pause::Full,
@@ -214,15 +191,7 @@ pub fn unread(form: Form, r: Read, counts: Counts, out: &mut [u8], at: usize) ->
                 }
             }
         }
-        Read::Record {
-            kind: _,
-            call: _,
-            next: _,
-        } => Stop {
-            used: at,
-            pause: Pause::End,
-        },
-        Read::End => Stop {
+        Read::Record { .. } | Read::End => Stop {
             used: at,
             pause: Pause::End,
         },

@@ -15,11 +15,9 @@ pub fn put_samples(bytes: &[u8], out: &mut [f32], at: usize) -> usize
     if out.len() < at {
         return 0;
     }
-    let n = fields::least(bytes.len() / 4, out.len() - at);
-    let mut i: usize = 0;
-    while i < n {
+    let n = (bytes.len() / 4).min(out.len() - at);
+    for i in 0..n {
         out[at + i] = fields::f32_at(bytes, 4 * i);
-        i = i + 1;
     }
     n
 }

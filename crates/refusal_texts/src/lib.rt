@@ -7,6 +7,7 @@ ghost use Rattle.refusal_texts.specs.Texts.{text_of};
 
 use listing::pieces::put_bytes;
 
+// By number, since documents 01 and 02 number the refusals of several crates in one list.
 // Puts the text of a refusal into a lent buffer, and answers the next free place. A text that has no room is left out, and the place stays.
 pub fn refusal_text(number: u64, out: &mut [u8], at: usize) -> usize
     ensures { text out.new result ≡ add (text_of number) (text out.old at) }

@@ -1,15 +1,13 @@
 -- The refusals as the code tests them: a number, or 0 where none applies.
 use Rattle.std.specs.Prelude.{ℕ, ◌/◌, ◌%◌, Bool, true, false, cond, not, ◌&&◌, ◌||◌, ◌==◌, nat_le, nat_lt, Float}
-use Rattle.std.specs.Float.Ieee.{lt, le}
 use Rattle.std.specs.Float.Ieee.Scale.{finite}
+use Rattle.event.specs.declared.Edit.{Edit}
 use Rattle.event.specs.declared.EventId.{EventId}
 use Rattle.event.specs.declared.Source.{Source}
 use Rattle.floats.specs.Arithmetic.{◌+ᵈ◌, ◌×ᵈ◌, ◌<ᶠ◌, ◌≤ᶠ◌, oneᶠ, whole}
 use Rattle.lists.specs.declared.EditMap.{EditMap}
-use Rattle.lists.specs.declared.Found.{Found}
-use Rattle.lists.specs.declared.Found.TheVariants.{At, Nothing}
-use Rattle.lists.specs.declared.FoundEdit.{FoundEdit}
-use Rattle.lists.specs.declared.FoundEdit.TheVariants.{Stored, Missing}
+use Rattle.std.specs.declared.option.Option.{Option}
+use Rattle.std.specs.declared.option.Option.TheVariants.{Some, None}
 use Rattle.lists.specs.Edits.{found_edit}
 use Rattle.ledger.specs.Refusals.{within, within_end, finite_source}
 
@@ -23,20 +21,20 @@ push_refusal start end lasts fade_in fade_out source gain held next =
     (cond (next == 0) 7 0)))))
 
 -- where the number sounds; whether the end is past; its stored edit; how many are stored
-unfoldable pub roomless : Found → (over : Bool) → FoundEdit → ℕ → Bool
-roomless (At i) over f n = false
-roomless Nothing true f n = false
-roomless Nothing false (Stored d) n = false
-roomless Nothing false Missing n = nat_le 256 n
+unfoldable pub roomless : Option ℕ → (over : Bool) → Option Edit → ℕ → Bool
+roomless (Some i) over f n = false
+roomless None true f n = false
+roomless None false (Some d) n = false
+roomless None false None n = nat_le 256 n
 
-unfoldable pub no_room : Found → EditMap → (threshold : Float) → EventId → (end : Float) → Bool
+unfoldable pub no_room : Option ℕ → EditMap → (threshold : Float) → EventId → (end : Float) → Bool
 unfolding roomless
 no_room found edits θ k end = roomless found (end <ᶠ θ) (found_edit edits k) edits.len
 
 unfoldable pub edit_limits : (end fade_out : Float) → ℕ
 edit_limits end fade_out = cond (not (within_end end && within fade_out)) 8 0
 
-unfoldable pub edit_refusal : Found → EditMap → (threshold : Float) → EventId → (end until fade_out : Float) → ℕ
+unfoldable pub edit_refusal : Option ℕ → EditMap → (threshold : Float) → EventId → (end until fade_out : Float) → ℕ
 unfolding no_room
 edit_refusal found edits θ k end until fade_out = cond (not (within_end end && within fade_out)) 8 (cond (no_room found edits θ k until) 9 0)
 

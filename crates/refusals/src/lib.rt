@@ -1,13 +1,53 @@
-// The refusals of documents 01 and 02 that are the engine's, in their order: a number, or 0 where none applies. They take no engine, so that the desk and the tape can ask them too.
+// The refusals of documents 01 and 02 that are the engine's, in their order: the first that applies, or none. They take no engine, so that the desk and the tape can ask them too.
 #![tactic(auto)]
 
 ghost use Rattle.std.specs.Prelude.{◌≡◌, ◌+◌, min, ◌&&◌};
 ghost use Rattle.std.specs.Float.Ieee.Scale.{finite as is_finite};
 ghost use Rattle.ledger.specs.Refusals as Limits;
+ghost use Rattle.refusals.specs.Numbers.{number_of, refusal_number};
 ghost use Rattle.refusals.specs.Refusals.{push_refusal, no_room, edit_limits, edit_refusal, tick_refusal, process_refusal, rate_refusal};
 
 use event::{EventId, Source};
-use lists::{EditMap, Found, FoundEdit};
+use lists::EditMap;
+
+// The engine's refusals, in the order in which they are asked.
+#[derive(Clone, Copy, PartialEq, Eq)]
+pub enum Refusal {
+    Rate,
+    Times,
+    Fades,
+    Level,
+    Gain,
+    Full,
+    NumbersSpent,
+    EditLimits,
+    NoRoom,
+    OutputLength,
+    BlockSize,
+    Clock,
+}
+
+impl Refusal {
+    // The number that document 01 or 02 gives it.
+    pub fn number(self) -> u64
+        ensures { result ≡ number_of self }
+    {
+        match self {
+            Refusal::Rate => 2,
+            Refusal::Times => 3,
+            Refusal::Fades => 4,
+            Refusal::Level => 5,
+            Refusal::Gain => 18,
+            Refusal::Full => 6,
+            Refusal::NumbersSpent => 7,
+            Refusal::EditLimits => 8,
+            Refusal::NoRoom => 9,
+            Refusal::OutputLength => 10,
+            Refusal::BlockSize => 11,
+            Refusal::Clock => 12,
+        }
+    }
+}
 
 // Within 1,000,000,000 in magnitude, and no NaN.
 fn within(x: f64) -> bool
@@ -20,15 +60,13 @@ fn within(x: f64) -> bool
 fn within_end(x: f64) -> bool
     ensures { result ≡ Limits.within_end x }
 {
-    let top: f64 = 1.0 / 0.0;
-    within(x) || x == top
+    within(x) || x == f64::INFINITY
 }
 
 fn finite(x: f32) -> bool
     ensures { result ≡ is_finite x }
 {
-    let top: f32 = 1.0 / 0.0;
-    x < top && -top < x
+    x < f32::INFINITY && f32::NEG_INFINITY < x
 }
 
 fn finite_source(source: Source) -> bool
@@ -41,18 +79,11 @@ fn finite_source(source: Source) -> bool
     }
 }
 
-// The lesser of `n` and 256.
-fn capped(n: usize) -> usize
-    ensures { result ≡ min n 256 }
-{
-    if 256 <= n { 256 } else { n }
-}
-
 // How many events three lists hold, at most 256.
 pub fn held(a: usize, b: usize, c: usize) -> usize
     ensures { result ≡ min (a + (b + c)) 256 }
 {
-    capped(capped(a) + (capped(b) + capped(c)))
+    (a.min(256) + (b.min(256) + c.min(256))).min(256)
 }
 
 // A push's times and fades keep the limit; only its end may be +infinity.
@@ -73,93 +104,83 @@ pub fn push_refusal(
     gain: f32,
     held: usize,
     next: u64,
-) -> u64
-    ensures { result ≡ push_refusal start end lasts fade_in fade_out source gain held next }
+) -> Option<Refusal>
+    ensures { refusal_number result ≡ push_refusal start end lasts fade_in fade_out source gain held next }
 {
     if !times_within(start, end, fade_in, fade_out) {
-        return 3;
+        return Some(Refusal::Times);
     }
     if lasts < fade_in || lasts < fade_out {
-        return 4;
+        return Some(Refusal::Fades);
     }
     if !finite_source(source) {
-        return 5;
+        return Some(Refusal::Level);
     }
     if !finite(gain) {
-        return 18;
+        return Some(Refusal::Gain);
     }
     if 256 <= held {
-        return 6;
+        return Some(Refusal::Full);
     }
     if next == 0 {
-        return 7;
+        return Some(Refusal::NumbersSpent);
     }
-    0
+    None
 }
 
 // An edit would have to be stored for a number that has none, and 256 are stored.
-fn no_room(found: Found, edits: EditMap, threshold: f64, id: EventId, end: f64) -> bool
+fn no_room(found: Option<usize>, edits: EditMap, threshold: f64, id: EventId, end: f64) -> bool
     ensures { result ≡ no_room found edits threshold id end }
 {
-    match found {
-        Found::At(_) => false,
-        Found::Nothing => {
-            if end < threshold {
-                return false;
-            }
-            let n = edits.len;
-            match edits.find(id) {
-                FoundEdit::Stored(_) => false,
-                FoundEdit::Missing => 256 <= n,
-            }
-        }
+    if found.is_some() || end < threshold {
+        return false;
     }
+    256 <= edits.len && edits.find(id).is_none()
 }
 
 // Of an edit's end, as given, and fade: 8.
-pub fn edit_limits(end: f64, fade_out: f64) -> u64
-    ensures { result ≡ edit_limits end fade_out }
+pub fn edit_limits(end: f64, fade_out: f64) -> Option<Refusal>
+    ensures { refusal_number result ≡ edit_limits end fade_out }
 {
     if within_end(end) && within(fade_out) {
-        0
+        None
     } else {
-        8
+        Some(Refusal::EditLimits)
     }
 }
 
 // Of an edit: 8 and 9. `end` is the end as given, `until` the same with the clock added where it is relative.
 pub fn edit_refusal(
-    found: Found,
+    found: Option<usize>,
     edits: EditMap,
     threshold: f64,
     id: EventId,
     end: f64,
     until: f64,
     fade_out: f64,
-) -> u64
-    ensures { result ≡ edit_refusal found edits threshold id end until fade_out }
+) -> Option<Refusal>
+    ensures { refusal_number result ≡ edit_refusal found edits threshold id end until fade_out }
 {
-    let no = edit_limits(end, fade_out);
-    if no != 0 {
-        return no;
+    if let Some(refusal) = edit_limits(end, fade_out) {
+        return Some(refusal);
     }
     if no_room(found, edits, threshold, id, until) {
-        return 9;
+        return Some(Refusal::NoRoom);
     }
-    0
+    None
 }
 
 // Of a tick into an output of `len` samples: 10 and 12.
-pub fn tick_refusal(len: usize, outputs: usize, time: f64, sample_duration: f64) -> u64
-    ensures { result ≡ tick_refusal len outputs time sample_duration }
+pub fn tick_refusal(len: usize, outputs: usize, time: f64, sample_duration: f64) -> Option<Refusal>
+    ensures { refusal_number result ≡ tick_refusal len outputs time sample_duration }
 {
     if len != outputs {
-        return 10;
+        return Some(Refusal::OutputLength);
     }
     if !(time + sample_duration <= 1000000000.0) {
-        return 12;
+        return Some(Refusal::Clock);
     }
-    0
+    None
 }
 
 // Of a block of `size` samples into an output of `len`: 10 to 12.
@@ -169,28 +190,28 @@ pub fn process_refusal(
     outputs: usize,
     time: f64,
     sample_duration: f64,
-) -> u64
-    ensures { result ≡ process_refusal size len outputs time sample_duration }
+) -> Option<Refusal>
+    ensures { refusal_number result ≡ process_refusal size len outputs time sample_duration }
 {
     if len % 64 != 0 || len / 64 != outputs {
-        return 10;
+        return Some(Refusal::OutputLength);
     }
     if 64 < size {
-        return 11;
+        return Some(Refusal::BlockSize);
     }
     if !(time + sample_duration * std::num::nearest_u64_to_f64(size as u64) <= 1000000000.0) {
-        return 12;
+        return Some(Refusal::Clock);
     }
-    0
+    None
 }
 
 // Of a rate: 2.
-pub fn rate_refusal(rate: f64) -> u64
-    ensures { result ≡ rate_refusal rate }
+pub fn rate_refusal(rate: f64) -> Option<Refusal>
+    ensures { refusal_number result ≡ rate_refusal rate }
 {
     if 1.0 <= rate && rate <= 1000000.0 {
-        0
+        None
     } else {
-        2
+        Some(Refusal::Rate)
     }
 }

@@ -1,5 +1,5 @@
 -- The loop over the arrangement's pushes: what is added up, and what is left. Assumes nothing.
-use Rattle.std.proofs.Common.{◌≡◌, ℕ, suc, ◌+◌, ◌-◌, ◌*◌, ◌<◌, ◌≤◌, List, [], ◌∷◌, sym, refl, ap, ◌∙◌, subst, arith}
+use Rattle.std.proofs.Common.{◌≡◌, ℕ, suc, ◌+◌, ◌-◌, ◌*◌, ◌<◌, ◌≤◌, sym, ap, ◌∙◌, subst, arith}
 use Rattle.event.specs.declared.ReplayMode.TheVariants.{All}
 use Rattle.ledger.specs.Calls.{absolute}
 use Rattle.tape.specs.declared.reader.PushRecord.{PushRecord}
@@ -7,7 +7,7 @@ use Rattle.sequencer.specs.declared.Sequencer.{Sequencer}
 use Rattle.sequencer.specs.declared.Outcome.{Outcome}
 use Rattle.sequencer.specs.declared.Pushed.{Pushed}
 use Rattle.sequencer.specs.Creation.{created}
-use Rattle.rises.specs.Totals.{Push, pushed_by, total_rise}
+use Rattle.rises.specs.Totals.{pushed_by, total_rise}
 use Rattle.rises.proofs.Single.{rise_few}
 use Rattle.rises.specs.Arrangement.{fresh_one, kth_push, pushes_from, arrangement}
 

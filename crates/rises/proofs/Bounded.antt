@@ -1,6 +1,6 @@
 -- Document 02, Paper 13: "From a fresh engine, with no other call between them, the rises of any n accepted pushes add up to at most the sum over k = 1 to n of floor(log2 k)." Assumes nothing.
 use Rattle.std.specs.Prelude.{◌≡◌, ℕ, zero, suc, ◌+◌, ◌<◌, ◌≤◌, Bool, true, false, cond, List, [], ◌∷◌, ◌==◌, refl}
-use Rattle.std.proofs.Common.{sym, ap, subst, add-one, arith}
+use Rattle.std.proofs.Common.{sym, subst, add-one, arith}
 use Rattle.std.proofs.Math.Decide.{dec_lt}
 use Rattle.event.specs.declared.ReplayMode.{ReplayMode}
 use Rattle.sequencer.specs.declared.Sequencer.{Sequencer}
@@ -9,9 +9,8 @@ use Rattle.event.specs.declared.ReplayMode.TheVariants.{All}
 use Rattle.sequencer.specs.Answers.{accepts}
 use Rattle.sequencer.specs.Outcomes.{refuses}
 use Rattle.sequencer.specs.Creation.{created, fresh_engine, refuses_creation}
-use Rattle.sequencer.specs.Moves.{pushed_event}
 use Rattle.sequencer.specs.Pushes.{admitted}
-use Rattle.sequencer.specs.Rises.{rise_of, with_rise}
+use Rattle.sequencer.specs.Rises.{with_rise}
 use Rattle.rises.specs.Way.{floor_log2}
 use Rattle.rises.specs.Totals.{Push, pushed_by, is_number, total_rise, accepted_of, bound}
 use Rattle.rises.specs.Single.{no_of, event_of, entered_by}

@@ -1,18 +1,16 @@
 -- The loop over the tape's records: what the buffer has, and what is left. Assumes nothing.
-use Rattle.std.proofs.Common.{◌≡◌, ℕ, suc, ◌+◌, ◌-◌, ◌*◌, ◌<◌, ◌≤◌, true, false, cond, eqb, ltb, List, [], ◌∷◌, ◌++◌, length, take, drop, sym, refl, ap, ◌∙◌, subst, append_assoc, append-nil, arith, length-append, length-drop, drop-drop, le-ltb, lt-ltb}
+use Rattle.std.proofs.Common.{Ok, Err, ◌≡◌, ℕ, suc, ◌+◌, ◌-◌, ◌*◌, ◌<◌, ◌≤◌, true, false, ltb, List, [], ◌++◌, length, take, drop, sym, refl, ap, ◌∙◌, subst, append_assoc, append-nil, arith, length-append, length-drop, drop-drop, le-ltb, lt-ltb}
 use lib.Seq.{take-append_seam, drop-append-add}
 use Rattle.event.specs.declared.ReplayMode.TheVariants.{All}
 use Rattle.tape.specs.Tape.{sizes, size_of, push_kind}
-use Rattle.tape.specs.declared.reader.Call.{Call}
 use Rattle.tape.specs.declared.reader.Call.TheVariants.{Create, Push}
 use Rattle.tape.specs.declared.reader.PushRecord.{PushRecord}
 use Rattle.tape_writer.specs.declared.Arguments.{Arguments}
-use Rattle.tape_writer.specs.Writing.{bytes_of, undefined, undefined_by, laid, buffer_after}
+use Rattle.tape_writer.specs.Writing.{bytes_of, undefined, undefined_by, buffer_after}
 use Rattle.tape_writer.specs.Claim.{arguments_of}
 use Rattle.tape_writer.specs.Sizes.{long_as, accepted, enough_rest}
 use Rattle.rises.specs.Arrangement.{kth_push}
-use Rattle.rises.specs.declared.Laid.{Laid}
-use Rattle.rises.specs.declared.Laid.TheVariants as laid
+use Rattle.rises.specs.declared.Refusal.TheVariants.{Short}
 use Rattle.rises.specs.Tapes.{creation_bytes, kth_bytes, records_from, tape_of, size_of_tape}
 use Rattle.rises.specs.Answers.{is_size, lay_answer, tape_laid}
 
@@ -128,7 +126,7 @@ module _ (n : ℕ) (buf₀ : List ℕ) (room : size_of_tape n ≤ length buf₀)
           ∙ sym (ap (λ (f : ℕ). l.done ++ records_from n (k + 1) f) m) ∙ l.gives;
     }
 
-    pub all_laid : n ≤ k → is_size n ≡ true → (laid.Bytes at ≡ lay_answer n buf₀) × (after ≡ tape_laid n buf₀)
+    pub all_laid : n ≤ k → is_size n ≡ true → (Ok at ≡ lay_answer n buf₀) × (after ≡ tape_laid n buf₀)
     unfolding records_from lay_answer tape_laid
     all_laid h w = (answer, lent)
       where
@@ -143,8 +141,8 @@ module _ (n : ℕ) (buf₀ : List ℕ) (room : size_of_tape n ≤ length buf₀)
             let q : n - k ≡ 0 = omega (arith, h) in
             sym (append-nil l.done) ∙ sym (ap (λ (f : ℕ). l.done ++ records_from n (k + 1) f) q) ∙ l.gives
 
-        answer : laid.Bytes at ≡ lay_answer n buf₀
-        answer = rw (w, fits) (ap laid.Bytes size)
+        answer : Ok at ≡ lay_answer n buf₀
+        answer = rw (w, fits) (ap Ok size)
 
         lent : after ≡ tape_laid n buf₀
         lent =
@@ -152,6 +150,6 @@ module _ (n : ℕ) (buf₀ : List ℕ) (room : size_of_tape n ≤ length buf₀)
             (l.front ∙ ap (λ (d : List ℕ). d ++ drop at buf) whole ∙ ap (λ (m : ℕ). tape_of n ++ drop m buf) size
             ∙ ap (λ (r : List ℕ). tape_of n ++ r) (unchanged (43 * n)))
 
-pub too_short : (n : ℕ) (buf : List ℕ) → length buf < size_of_tape n → is_size n ≡ true → (laid.Refused 19 ≡ lay_answer n buf) × (buf ≡ tape_laid n buf)
+pub too_short : (n : ℕ) (buf : List ℕ) → length buf < size_of_tape n → is_size n ≡ true → (Err Short ≡ lay_answer n buf) × (buf ≡ tape_laid n buf)
 unfolding lay_answer tape_laid
 too_short n buf h w = (rw (w, lt-ltb (length buf) (size_of_tape n) h), rw (w, lt-ltb (length buf) (size_of_tape n) h))

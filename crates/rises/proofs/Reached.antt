@@ -1,5 +1,5 @@
 -- Document 02, Paper 13: on every engine that a list of calls reaches from a creation, what a push says is how many levels its event rose: its heap is a heap. A refused push says 0. Assumes nothing.
-use Rattle.std.specs.Prelude.{◌≡◌, ℕ, ◌+◌, ◌^◌, ◌<◌, ◌≤◌, min, Bool, true, false, cond, not, ◌&&◌, ◌||◌, List, ◌==◌, nat_le, Float}
+use Rattle.std.specs.Prelude.{◌≡◌, ℕ, ◌^◌, ◌<◌, Bool, true, false, cond, not, ◌&&◌, ◌||◌, List, ◌==◌, nat_le, Float}
 use Rattle.std.proofs.Common.{true≢false, sym, ◌∙◌, subst, arith, lt-ltb, leb-false, eqb-true}
 use Rattle.std.proofs.lemmas.Bool.{false≢true}
 use Rattle.std.proofs.Math.Path.{refl, ap}
@@ -16,21 +16,19 @@ use Rattle.ready.specs.Sorted.{earlier_order}
 use Rattle.ready.specs.HeapOrder.{Heap-ordered}
 use Rattle.refusals.specs.Refusals.{push_refusal}
 use Rattle.ledger.specs.Calls.{Call}
-use Rattle.ledger.specs.Ledger.{create}
 use Rattle.ledger.specs.Claim.{AllLend, ledger_after}
 use Rattle.ledger.proofs.ClaimByRelation as ByRelation
 use Rattle.sequencer.specs.declared.Sequencer.{Sequencer}
 use Rattle.sequencer.specs.declared.Pushed.{Pushed}
 use Rattle.sequencer.specs.Outcomes.{refuses}
 use Rattle.sequencer.specs.Pushes.{admitted}
-use Rattle.sequencer.specs.Rises.{rise_ready, rise_of, with_rise}
+use Rattle.sequencer.specs.Rises.{rise_of, with_rise}
 use Rattle.claim.specs.Related.{Related}
 use Rattle.claim.specs.Creating.{related_creation}
 use Rattle.claim.specs.Shows.{shows}
 use Rattle.claim.specs.EngineCalls.{engine}
 use Rattle.claim.proofs.Steps.{keep}
 use Rattle.claim.specs.CarriedOut.{after}
-use Rattle.rises.specs.Way.{way_up, later_at}
 use Rattle.rises.proofs.Way.{levels_on_way}
 use Rattle.rises.specs.Totals.{Push, pushed_by, is_number, levels_risen}
 use Rattle.rises.specs.Single.{no_of, event_of, entered_by}

@@ -1,26 +1,21 @@
 -- One push: refused, it leaves the engine as it is and has no rise; accepted, its event enters. Assumes nothing.
-use Rattle.std.specs.Prelude.{◌≡◌, ℕ, suc, ◌+◌, ◌<◌, ◌≤◌, min, Bool, true, false, cond, ltb, ◌==◌, nat_lt, slice_set}
+use Rattle.std.specs.Prelude.{◌≡◌, suc, ◌+◌, ◌≤◌, Bool, true, false, cond, ltb, ◌==◌, nat_lt, slice_set}
 use Rattle.std.proofs.Math.Path.{refl}
 use Rattle.std.proofs.Common.{sym, subst, add-one, ltb-true}
 use native.Mathlib.Omega.{arith}
 use Rattle.std.specs.Float.Ieee.{lt}
 use Rattle.event.specs.declared.Event.{Event}
-use Rattle.event.specs.Events.{earlier, new_event}
+use Rattle.event.specs.Events.{earlier}
 use Rattle.event.specs.Blank.{blank}
-use Rattle.floats.specs.Arithmetic.{◌-ᵈ◌}
-use Rattle.ledger.specs.Refusals.{stated_end}
-use Rattle.ledger.specs.Steps.{pushed_time}
 use Rattle.ready.specs.Levels.{levels}
 use Rattle.ready.specs.Waiting.{pushed}
-use Rattle.refusals.specs.Refusals.{push_refusal}
 use Rattle.sequencer.specs.declared.Sequencer.{Sequencer}
 use Rattle.sequencer.specs.declared.Pushed.{Pushed}
 use Rattle.sequencer.specs.Outcomes.{refuses}
 use Rattle.sequencer.specs.Parts.{with_active}
 use Rattle.sequencer.specs.Moves.{pushed_ready, pushed_active, pushed_event}
-use Rattle.sequencer.specs.Pushes.{admitted, pushes_to, pushes}
+use Rattle.sequencer.specs.Pushes.{pushes_to, pushes}
 use Rattle.sequencer.specs.Rises.{rise_ready, rise_of, rise_to, rise_by, with_rise}
-use Rattle.rises.specs.Way.{floor_log2}
 use Rattle.rises.proofs.Way.{levels_most, log2_small}
 use Rattle.rises.specs.Totals.{Push, pushed_by, bound}
 use Rattle.rises.specs.Single.{no_of, event_of, entered_by, n, Bounded}

@@ -1,21 +1,10 @@
 -- What the test of n says.
-use Rattle.std.proofs.Common.{◌≡◌, ℕ, ◌<◌, ◌≤◌, Bool, true, false, cond, ◌&&◌, ltb, leb, List, length, sym, refl, ap, ◌∙◌, arith, le-ltb, lt-ltb, leb-true}
+use Rattle.std.proofs.Common.{◌≡◌, ℕ, ◌≤◌, Bool, true, false, ◌&&◌, ltb, leb, List, ap, leb-true, Ok, Err}
 use mathlib.Core.Bool.{false≢true}
-use Rattle.rises.specs.declared.Total.{Total}
-use Rattle.rises.specs.declared.Total.TheVariants as total
-use Rattle.rises.specs.declared.Laid.{Laid}
-use Rattle.rises.specs.declared.Laid.TheVariants as laid
+use Rattle.rises.specs.declared.Refusal.TheVariants.{Size}
 use Rattle.rises.specs.Totals.{bound, total_rise}
 use Rattle.rises.specs.Arrangement.{fresh_one, arrangement}
 use Rattle.rises.specs.Answers.{is_size, greatest_total, arranged_total, lay_answer, tape_laid}
-
-pub size_zero : (n : ℕ) → n ≡ 0 → false ≡ is_size n
-unfolding is_size
-size_zero n h = rw (le-ltb 0 n (omega (arith, h)))
-
-pub size_above : (n : ℕ) → (n ≡ 0 → ⊥) → leb n 256 ≡ is_size n
-unfolding is_size
-size_above n h = rw (lt-ltb 0 n (omega (arith, h)))
 
 pub size_most : (n : ℕ) → is_size n ≡ true → n ≤ 256
 unfolding is_size
@@ -28,22 +17,22 @@ size_most n h = go (ltb 0 n) h
 -- ---- the answers by the test
 
 module _ (n : ℕ) where
-  pub greatest-refused : is_size n ≡ false → total.Refused 23 ≡ greatest_total n
+  pub greatest-refused : is_size n ≡ false → Err Size ≡ greatest_total n
   unfolding greatest_total
   greatest-refused h = rw h
 
-  pub greatest_given : is_size n ≡ true → (k : ℕ) → k ≡ bound n → total.Levels k ≡ greatest_total n
+  pub greatest_given : is_size n ≡ true → (k : ℕ) → k ≡ bound n → Ok k ≡ greatest_total n
   unfolding greatest_total
-  greatest_given h k e = rw h (ap total.Levels e)
+  greatest_given h k e = rw h (ap Ok e)
 
-  pub arranged-refused : is_size n ≡ false → total.Refused 23 ≡ arranged_total n
+  pub arranged-refused : is_size n ≡ false → Err Size ≡ arranged_total n
   unfolding arranged_total
   arranged-refused h = rw h
 
-  pub arranged_given : is_size n ≡ true → (k : ℕ) → k ≡ total_rise fresh_one (arrangement n) → total.Levels k ≡ arranged_total n
+  pub arranged_given : is_size n ≡ true → (k : ℕ) → k ≡ total_rise fresh_one (arrangement n) → Ok k ≡ arranged_total n
   unfolding arranged_total
-  arranged_given h k e = rw h (ap total.Levels e)
+  arranged_given h k e = rw h (ap Ok e)
 
-  pub lay_refused : is_size n ≡ false → (buf : List ℕ) → (laid.Refused 23 ≡ lay_answer n buf) × (buf ≡ tape_laid n buf)
+  pub lay_refused : is_size n ≡ false → (buf : List ℕ) → (Err Size ≡ lay_answer n buf) × (buf ≡ tape_laid n buf)
   unfolding lay_answer tape_laid
   lay_refused h buf = (rw h, rw h)

@@ -1,21 +1,19 @@
 -- The tape of n pushes reads back as record 00 and the arrangement's n pushes, and then ends: Paper 6's `read_back`, record after record.
-use Rattle.std.specs.Prelude.{◌≡◌, ℕ, zero, suc, ◌+◌, ◌-◌, ◌*◌, ◌^◌, ◌<◌, ◌≤◌, Bool, true, false, T, List, [], ◌∷◌, ◌++◌, map, length, take, drop, ◌==◌, refl, Float}
-use Rattle.std.proofs.Common.{sym, ap, ◌∙◌, subst, append_assoc, append-nil, arith, lit<, length-append, le-ltb}
-use Rattle.std.specs.Float.{binary32, binary64}
-use Rattle.std.specs.Float.Ieee.{fits, round}
+use Rattle.std.specs.Prelude.{◌≡◌, ℕ, zero, suc, ◌+◌, ◌-◌, ◌≤◌, false, List, [], ◌++◌, map, length, take, drop, refl}
+use Rattle.std.proofs.Common.{ap, ◌∙◌, subst, append_assoc, append-nil, arith, lit<, length-append, le-ltb}
+use Rattle.std.specs.Float.{binary64}
+use Rattle.std.specs.Float.Ieee.{fits}
 use Rattle.std.specs.Float.Ieee.Fits.{round-fits}
 use Rattle.std.proofs.Math.Seq.{take-append_seam, drop-append-add}
 use Rattle.floats.specs.Arithmetic.{whole}
 use Rattle.event.specs.declared.ReplayMode.TheVariants.{All}
-use Rattle.tape.specs.Tape.{read_at, size_of, sizes, push_kind}
-use Rattle.tape.specs.declared.reader.Cursor.{Cursor}
+use Rattle.tape.specs.Tape.{read_at, size_of, push_kind}
 use Rattle.tape.specs.declared.reader.Call.{Call}
 use Rattle.tape.specs.declared.reader.Call.TheVariants as call
-use Rattle.tape.specs.declared.reader.Read.TheVariants.{Record, End}
+use Rattle.tape.specs.declared.reader.Read.TheVariants.{Record}
 use Rattle.tape_writer.specs.declared.Arguments.{Arguments}
-use Rattle.tape_writer.specs.declared.Written.TheVariants.{Next}
-use Rattle.tape_writer.specs.Writing.{bytes_of, call_from, call_by, push_from, source_from, undefined, undefined_by, too_short, answered, buffer_after}
-use Rattle.tape_writer.specs.Claim.{Typed, arguments_of}
+use Rattle.tape_writer.specs.Writing.{bytes_of, call_from, call_by, push_from, source_from, undefined, undefined_by, too_short, buffer_after}
+use Rattle.tape_writer.specs.Claim.{Typed}
 use Rattle.tape_writer.specs.Sizes.{long_as, kind_known, accepted, enough_rest}
 use Rattle.tape_writer.specs.ReadBack.{read_back}
 use Rattle.rises.specs.Arrangement.{kth_push, pushes_from, arrangement}

@@ -1,8 +1,9 @@
 -- The way up in a heap's array: its places, how many they are, and which events on it come after a new one. In a heap these are the first ones on the way. Assumes nothing.
-use Rattle.std.specs.Prelude.{◌≡◌, ℕ, zero, suc, ◌+◌, ◌*◌, ◌/◌, ◌^◌, ◌<◌, ◌≤◌, Bool, true, false, cond, ◌&&◌, List, [], ◌∷◌, length, ◌≢◌, nat_lt, slice_index_or, slice_set}
+use Rattle.std.specs.Prelude.{◌≡◌, ℕ, zero, suc, ◌*◌, ◌/◌, ◌^◌, ◌<◌, ◌≤◌, Bool, true, false, cond, List, [], ◌∷◌, length, ◌≢◌, nat_lt, slice_index_or, slice_set}
 use Rattle.std.proofs.Math.Path.{refl, sym, ap}
 use Rattle.std.proofs.Common.{◌∙◌, subst, pow-suc, get_or-set_same, get_or-set_other, lt-ltb, le-ltb}
 use native.Mathlib.Omega.{arith}
+use Rattle.std.proofs.Math.Pow.{pow_mono}
 use Rattle.std.proofs.Math.Decide.{ℕ_discrete, dec_lt}
 use Rattle.std.proofs.Math.ListN.{length-set}
 use Rattle.ready.specs.Sift.{parent, rise}
@@ -70,6 +71,18 @@ log2_floor k h = go k k h (omega arith)
         at ih (yes s) =
             let r = ih s in
             subst (λ (n : ℕ). (2 ^ n ≤ k) × (k < 2 ^ suc n)) (sym (halvings_on f k s)) (rw (pow-suc 2 (halvings f (k / 2)), pow-suc 2 (suc (halvings f (k / 2)))) (two (2 ^ halvings f (k / 2)) (2 ^ suc (halvings f (k / 2))) k r.0 r.1))
+
+-- and no other is
+pub log2_only : (k r : ℕ) → 0 < k → 2 ^ r ≤ k → k < 2 * 2 ^ r → r ≡ floor_log2 k
+log2_only k r h a b = go (dec_lt r (floor_log2 k)) (dec_lt (floor_log2 k) r)
+  where
+    f : (2 ^ floor_log2 k ≤ k) × (k < 2 ^ suc (floor_log2 k))
+    f = log2_floor k h
+
+    go : Dec (r < floor_log2 k) → Dec (floor_log2 k < r) → r ≡ floor_log2 k
+    go (yes l) q = let m : 2 ^ suc r ≤ 2 ^ floor_log2 k = pow_mono (omega arith) in let n = pow-suc 2 r in absurd (omega (arith, m, n, f.0))
+    go (no l) (yes m) = let n : 2 ^ suc (floor_log2 k) ≤ 2 ^ r = pow_mono (omega arith) in absurd (omega (arith, n, f.1))
+    go (no l) (no m) = omega arith
 
 pub way_root : (f i : ℕ) → i ≤ 0 → way_up f i ≡ []
 unfolding way_up

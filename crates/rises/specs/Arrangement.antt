@@ -1,5 +1,5 @@
 -- Document 02, Paper 13: "a tape that reaches that sum: record 00 with one channel, All, first number 1, then n pushes 01, the k-th with start n - k, end n, no fades, smooth, held 1.0".
-use Rattle.std.specs.Prelude.{ℕ, zero, suc, ◌-◌, List, [], ◌∷◌, ◌++◌}
+use Rattle.std.specs.Prelude.{ℕ, zero, suc, ◌-◌, List, [], ◌∷◌}
 use Rattle.floats.specs.Arithmetic.{zeroᶠ, oneᶠ, whole}
 use Rattle.event.specs.declared.Fade.TheVariants.{Smooth}
 use Rattle.event.specs.declared.Source.TheVariants.{Held}

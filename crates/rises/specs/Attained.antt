@@ -4,7 +4,6 @@ use Rattle.event.specs.declared.Event.{Event}
 use Rattle.event.specs.Blank.{blank}
 use Rattle.floats.specs.Arithmetic.{ -∞, whole}
 use Rattle.ledger.specs.Calls.{absolute}
-use Rattle.ready.specs.Sift.{rise}
 use Rattle.sequencer.specs.declared.Sequencer.{Sequencer}
 use Rattle.sequencer.specs.declared.Pushed.{Pushed}
 use Rattle.rises.specs.Way.{floor_log2}

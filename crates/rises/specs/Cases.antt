@@ -1,11 +1,10 @@
 -- Values of the definitions, computed. The expected ones come from the paper, or from counting by hand.
-use Rattle.std.specs.Prelude.{◌≡◌, ℕ, Bool, true, false, List, [], ◌∷◌, ◌++◌, map, replicate, nat_lt, refl, Float}
-use Rattle.std.specs.Float.{nan, fin, binary64}
+use Rattle.std.specs.Prelude.{◌≡◌, ℕ, true, false, List, [], ◌∷◌, ◌++◌, map, replicate, nat_lt, refl, Float, Some, None, Ok, Err}
+use Rattle.std.specs.Float.{nan, binary64}
 use Rattle.std.specs.Float.Ieee.{to_bits, le, lt, neg, sub}
 use Rattle.event.specs.declared.Fade.TheVariants.{Smooth}
 use Rattle.event.specs.declared.ReplayMode.TheVariants.{All}
 use Rattle.event.specs.declared.Source.TheVariants.{Held}
-use Rattle.event.specs.declared.Event.{Event}
 use Rattle.event.specs.Events.{new_event}
 use Rattle.floats.specs.Arithmetic.{zeroᶠ, oneᶠ, whole}
 use Rattle.floats.specs.Floats.{sooner, total_less}
@@ -22,16 +21,14 @@ use Rattle.rises.specs.Way.{floor_log2, way_up, later_at}
 use Rattle.little_endian.specs.LowBytes.{little_endian}
 use Rattle.little_endian.specs.Fields.{joined}
 use Rattle.tape_writer.specs.Writing.{bytes_by, body_parts, source_from}
-use Rattle.rises.specs.declared.Total.{Total}
-use Rattle.rises.specs.declared.Total.TheVariants as total
-use Rattle.rises.specs.declared.Laid.{Laid}
-use Rattle.rises.specs.declared.Laid.TheVariants as laid
+use Rattle.rises.specs.declared.Refusal.TheVariants.{Size, Short}
+use Rattle.rises.specs.Refusals.{number_of}
 use Rattle.rises.specs.Totals.{Push, pushed_by, levels_risen, total_rise, accepted_of, bound}
 use Rattle.rises.specs.Arrangement.{fresh_one, kth_push, pushes_from, arrangement}
 use Rattle.rises.specs.Words.{decimal, count_of}
 use Rattle.rises.specs.Tapes.{records_from, tape_of}
 use Rattle.rises.specs.Answers.{is_size, greatest_total, arranged_total, lay_answer, tape_laid}
-use Rattle.rises.specs.Records.{TapeRecord, push_record}
+use Rattle.rises.specs.Records.{push_record}
 use Rattle.tape.specs.declared.reader.Call.TheVariants as call
 use Rattle.tape.specs.declared.reader.PushRecord.{PushRecord}
 
@@ -79,7 +76,7 @@ passed-above = refl
 -- ---- words: "n in decimal digits, no leading zero"
 
 -- 1, 9, 10, 256
-taken : map count_of ((49 ∷ []) ∷ (57 ∷ []) ∷ (49 ∷ 48 ∷ []) ∷ (50 ∷ 53 ∷ 54 ∷ []) ∷ []) ≡ 1 ∷ 9 ∷ 10 ∷ 256 ∷ []
+taken : map count_of ((49 ∷ []) ∷ (57 ∷ []) ∷ (49 ∷ 48 ∷ []) ∷ (50 ∷ 53 ∷ 54 ∷ []) ∷ []) ≡ map Some (1 ∷ 9 ∷ 10 ∷ 256 ∷ [])
 unfolding count_of decimal
 taken = refl
 
@@ -87,7 +84,7 @@ taken = refl
 refused :
     map count_of ([] ∷ (48 ∷ []) ∷ (50 ∷ 53 ∷ 55 ∷ []) ∷ (48 ∷ 48 ∷ 55 ∷ []) ∷ (43 ∷ 53 ∷ []) ∷ (49 ∷ 101 ∷ 50 ∷ []) ∷ (49 ∷ 48 ∷ 48 ∷ 48 ∷ [])
     ∷ (50 ∷ 53 ∷ 54 ∷ 48 ∷ []) ∷ (49 ∷ 47 ∷ []) ∷ (49 ∷ 58 ∷ []) ∷ [])
-    ≡ replicate 10 0
+    ≡ replicate 10 None
 unfolding count_of decimal
 refused = refl
 
@@ -172,12 +169,12 @@ sizes : map is_size (0 ∷ 1 ∷ 256 ∷ 257 ∷ []) ≡ false ∷ true ∷ true
 unfolding is_size
 sizes = refl
 
-greatest : map greatest_total (0 ∷ 1 ∷ 4 ∷ 256 ∷ 257 ∷ []) ≡ total.Refused 23 ∷ total.Levels 0 ∷ total.Levels 4 ∷ total.Levels 1546 ∷ total.Refused 23 ∷ []
+greatest : map greatest_total (0 ∷ 1 ∷ 4 ∷ 256 ∷ 257 ∷ []) ≡ Err Size ∷ Ok 0 ∷ Ok 4 ∷ Ok 1546 ∷ Err Size ∷ []
 unfolding greatest_total is_size bound
 greatest = refl
 
 -- each event rises to the top: 0, 1, 1 and 2 levels
-arranged : map arranged_total (0 ∷ 1 ∷ 2 ∷ 4 ∷ 257 ∷ []) ≡ total.Refused 23 ∷ total.Levels 0 ∷ total.Levels 1 ∷ total.Levels 4 ∷ total.Refused 23 ∷ []
+arranged : map arranged_total (0 ∷ 1 ∷ 2 ∷ 4 ∷ 257 ∷ []) ≡ Err Size ∷ Ok 0 ∷ Ok 1 ∷ Ok 4 ∷ Err Size ∷ []
 unfolding arranged_total created emptied pushes pushed rise rise_by within within_end sooner total_less whole le neg sub
 arranged = refl
 
@@ -185,7 +182,7 @@ arranged = refl
 laid-answers :
     lay_answer 1 (replicate 53 7) ∷ lay_answer 1 (replicate 54 7) ∷ lay_answer 2 (replicate 96 7) ∷ lay_answer 2 (replicate 97 7)
     ∷ lay_answer 0 (replicate 54 7) ∷ lay_answer 257 [] ∷ []
-    ≡ laid.Refused 19 ∷ laid.Bytes 54 ∷ laid.Refused 19 ∷ laid.Bytes 97 ∷ laid.Refused 23 ∷ laid.Refused 23 ∷ []
+    ≡ Err Short ∷ Ok 54 ∷ Err Short ∷ Ok 97 ∷ Err Size ∷ Err Size ∷ []
 unfolding lay_answer is_size
 laid-answers = refl
 
@@ -195,3 +192,7 @@ laid_bytes :
     × (tape_laid 0 (replicate 60 7) ≡ replicate 60 7) × (tape_laid 257 (7 ∷ []) ≡ 7 ∷ [])
 unfolding tape_laid is_size tape_of bytes_by body_parts joined little_endian source_from kth_push whole to_bits
 laid_bytes = (refl, refl, refl, refl)
+
+-- the paper's numbers
+refusal_numbers : map number_of (Size ∷ Short ∷ []) ≡ 23 ∷ 19 ∷ []
+refusal_numbers = refl

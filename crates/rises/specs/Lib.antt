@@ -1,3 +1,4 @@
+pub mod Refusals
 pub mod Way
 pub mod Totals
 pub mod Single

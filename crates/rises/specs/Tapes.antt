@@ -1,9 +1,7 @@
 -- Document 02, Paper 13: the arrangement as a tape, its records' bytes by the writer of Paper 6.
-use Rattle.std.specs.Prelude.{ℕ, zero, suc, ◌+◌, ◌*◌, List, [], ◌∷◌, ◌++◌}
+use Rattle.std.specs.Prelude.{ℕ, zero, suc, ◌+◌, ◌*◌, List, [], ◌++◌}
 use Rattle.event.specs.declared.ReplayMode.TheVariants.{All}
-use Rattle.tape.specs.declared.reader.Call.{Call}
 use Rattle.tape.specs.declared.reader.Call.TheVariants.{Create, Push}
-use Rattle.tape_writer.specs.declared.Arguments.{Arguments}
 use Rattle.tape_writer.specs.Writing.{bytes_of}
 use Rattle.tape_writer.specs.Claim.{arguments_of}
 use Rattle.rises.specs.Arrangement.{kth_push}

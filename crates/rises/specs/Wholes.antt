@@ -1,12 +1,12 @@
 -- Whole numbers up to 256 as f64: exact, in order, within document 01's limits, and their differences are whole. What holds of each is one test, computed over all of them. Assumes nothing.
-use Rattle.std.specs.Prelude.{◌≡◌, ℕ, zero, suc, ◌+◌, ◌-◌, ◌*◌, ◌<◌, ◌≤◌, Bool, true, false, cond, not, ◌&&◌, T, ◌==◌, refl, Float}
+use Rattle.std.specs.Prelude.{◌≡◌, ℕ, zero, suc, ◌+◌, ◌-◌, ◌*◌, ◌<◌, ◌≤◌, Bool, true, false, not, ◌&&◌, T, ◌==◌, refl, Float}
 use Rattle.std.proofs.Math.Bool.{and-false}
-use Rattle.std.proofs.Common.{true≢false, sym, ap, ◌∙◌, mul-pos, arith}
+use Rattle.std.proofs.Common.{true≢false, ap, ◌∙◌, mul-pos, arith}
 use Rattle.std.proofs.Math.Decide.{dec_lt}
 use borrow.Author.Tests.{eqb-true, le-ltb, not-true}
 use Rattle.std.specs.Float.Ieee.{nan, up, down, round, add, sub, sum, neg, lt, le, eq, is_nan}
 use Rattle.std.specs.Float.{inf, fin, binary64}
-use Rattle.std.specs.Float.Ieee.Bits.{is_true, is_false}
+use Rattle.std.specs.Float.Ieee.Bits.{is_true}
 use Rattle.std.specs.Float.Ieee.Fits.{and_l, and_r, down_pos}
 use Rattle.std.specs.Float.Ieee.Exact.{HasValue}
 use Rattle.std.specs.Float.Ieee.Scale.{round_same}

@@ -1,55 +1,68 @@
--- Runs added at a gain. Assumes nothing.
-use mathlib.Core.Path.{◌≡◌, refl, ap, ◌∙◌, sym}
+-- What is done to each sample along others, in the words of the contracts. Assumes nothing.
+use mathlib.Core.Path.{◌≡◌, refl, ap, ◌∙◌}
 use mathlib.Core.List.{List, [], ◌∷◌, ◌++◌, map}
-use Prim.Native.Nat.{ℕ, suc, ◌+◌, ◌-◌, ◌≤◌}
-use native.Mathlib.Numerals.{add-one}
+use Prim.Native.Nat.{ℕ, zero, suc, ◌-◌, ◌≤◌}
+use native.Mathlib.Nat.{sub-zero}
 use native.Mathlib.Omega.{arith}
-use lib.Ieee.{Float, nan}
-use lib.ListN.{length, get_or, take, drop, replicate}
-use lib.Seq.{drop-cons}
+use lib.Ieee.{Float}
+use lib.ListN.{length, take, drop, replicate, length-append, length-drop}
+use lib.Seq.{length-take-le}
 use Rattle.event.specs.Sources.{made}
 use Rattle.floats.specs.Arithmetic.{◌+ˢ◌, ◌×ˢ◌}
-use Rattle.runs.specs.Walk.{walk, zipped}
-use Rattle.runs.specs.Samples.{chain, added}
+use Rattle.runs.specs.Walk.{zipped}
+use Rattle.runs.specs.Samples.{added}
+use Rattle.runs.proofs.Walks.{then-rest}
 
-module _ (g : Float) where
+-- the sources' samples themselves
+pub zipped_others : {A : Type 0} (ys l : List A) → length ys ≡ length l → zipped (λ a y. y) ys l ≡ ys
+unfolding zipped
+zipped_others [] [] e = refl
+zipped_others (y ∷ ys) [] e = absurd (omega (arith, e))
+zipped_others [] (a ∷ l) e = absurd (omega (arith, e))
+zipped_others (y ∷ ys) (a ∷ l) e = ap (λ (r : List _). y ∷ r) (zipped_others ys l (omega (arith, e)))
+
+pub length-made : {A S : Type 0} (v : S → A) (next : S → S) (s : S) (k : ℕ) → length (made v next s k) ≡ k
+unfolding made
+length-made v next s zero = refl
+length-made v next s (suc k) = ap suc (length-made v next (next s) k)
+
+-- the samples at a gain, added
+pub zipped_added : (g : Float) (run l : List Float) → zipped (λ a y. a +ˢ (y ×ˢ g)) run l ≡ added g run l
+unfolding zipped
+zipped_added g run [] = refl
+zipped_added g [] (a ∷ l) = refl
+zipped_added g (y ∷ run) (a ∷ l) = ap (λ (r : List Float). (a +ˢ (y ×ˢ g)) ∷ r) (zipped_added g run l)
+
+module _ {A B : Type 0} (h : A → B → A) (z : B) where
   -- one level
-  pub added-level : (x : Float) (l : List Float) → map (λ a. a +ˢ (x ×ˢ g)) l ≡ added g (replicate (length l) x) l
+  pub zipped_level : (l : List A) → map (λ a. h a z) l ≡ zipped h (replicate (length l) z) l
   unfolding zipped
-  added-level x [] = refl
-  added-level x (a ∷ l) = ap (λ (r : List Float). (a +ˢ (x ×ˢ g)) ∷ r) (added-level x l)
+  zipped_level [] = refl
+  zipped_level (a ∷ l) = ap (λ (r : List A). h a z ∷ r) (zipped_level l)
 
-  -- a ramp
-  pub walk_chain : (step x : Float) (l : List Float) → walk (λ y a. a +ˢ (y ×ˢ g)) (λ y. y +ˢ step) x l ≡ added g (chain step x (length l)) l
-  unfolding walk zipped made
-  walk_chain step x [] = refl
-  walk_chain step x (a ∷ l) = ap (λ (r : List Float). (a +ˢ (x ×ˢ g)) ∷ r) (walk_chain step (x +ˢ step) l)
-
-  -- another list, from place `at` on
-  pub walk_from : (xs : List Float) (at : ℕ) (l : List Float) → at + length l ≤ length xs
-      → walk (λ j a. a +ˢ (get_or xs j nan ×ˢ g)) (λ j. j + 1) at l ≡ added g (take (length l) (drop at xs)) l
-  unfolding walk zipped
-  walk_from xs at [] b = refl
-  walk_from xs at (a ∷ l) b =
-      let e : drop at xs ≡ get_or xs at nan ∷ drop (suc at) xs = drop-cons xs at nan (omega arith) in
-      rw (e, add-one) (ap (λ (r : List Float). (a +ˢ (get_or xs at nan ×ˢ g)) ∷ r) (walk_from xs (suc at) l (omega arith)))
-
-  pub length-added : (run l : List Float) → length (added g run l) ≡ length l
+  -- some others, and then one level
+  pub zipped_then : (n : ℕ) (xs : List B) (l : List A) → n ≤ length l → n ≤ length xs
+      → zipped h xs (take n l) ++ map (λ a. h a z) (drop n l) ≡ zipped h (take n xs ++ replicate (length l - n) z) l
   unfolding zipped
-  length-added run [] = refl
-  length-added [] (a ∷ l) = refl
-  length-added (y ∷ run) (a ∷ l) = ap suc (length-added run l)
+  zipped_then zero xs l i j = rw sub-zero (zipped_level l)
+  zipped_then (suc n) xs [] i j = absurd (omega arith)
+  zipped_then (suc n) [] (a ∷ l) i j = absurd (omega arith)
+  zipped_then (suc n) (x ∷ xs) (a ∷ l) i j =
+      let k : suc (length l) - suc n ≡ length l - n = omega arith in
+      rw k (ap (λ (r : List A). h a x ∷ r) (zipped_then n xs l (omega arith) (omega arith)))
 
-  -- a run, and then one level
-  pub added_then : (z : Float) (n : ℕ) (ys l : List Float) → n ≤ length l → length ys ≡ n
-      → added g ys (take n l) ++ added g (replicate (length (drop n l)) z) (drop n l) ≡ added g (ys ++ replicate (length l - n) z) l
+  pub length-zipped : (xs : List B) (l : List A) → length (zipped h xs l) ≡ length l
   unfolding zipped
-  added_then z n [] l h e = let q : n ≡ 0 = omega (arith, e) in rw (q, sub0 (length l))
-    where
-      sub0 : (k : ℕ) → k - 0 ≡ k
-      sub0 k = omega arith
-  added_then z n (y ∷ ys) [] h e = absurd (omega (arith, e))
-  added_then z n (y ∷ ys) (a ∷ l) h e =
-      let q : n ≡ suc (length ys) = omega (arith, e) in
-      let k : suc (length l) - suc (length ys) ≡ length l - length ys = omega arith in
-      rw (q, k) (ap (λ (r : List Float). (a +ˢ (y ×ˢ g)) ∷ r) (added_then z (length ys) ys l (omega arith) refl))
+  length-zipped xs [] = refl
+  length-zipped [] (a ∷ l) = refl
+  length-zipped (x ∷ xs) (a ∷ l) = ap suc (length-zipped xs l)
+
+  -- the same, as two loops leave it
+  pub then_level : (n : ℕ) (xs : List B) (l : List A) → n ≤ length l → n ≤ length xs
+      → (let w = zipped h xs (take n l) ++ drop n l in take n w ++ (map (λ a. h a z) (take (length w - n) (drop n w)) ++ drop (length w - n) (drop n w)))
+      ≡ zipped h (take n xs ++ replicate (length l - n) z) l
+  then_level n xs l i j =
+      let ys = zipped h xs (take n l) in
+      let y : length ys ≡ n = length-zipped xs (take n l) ∙ length-take-le n l i in
+      let k : length (ys ++ drop n l) ≡ length l = simp (length-append, y, length-drop) (omega arith) in
+      rw k (then-rest (λ (r : List A). map (λ a. h a z) r) n ys l i y) ∙ zipped_then n xs l i j

@@ -1,5 +1,5 @@
 -- What the private sample loops do.
-use Rattle.std.specs.Prelude.{ℕ, ◌+◌, ◌-◌, min, Bool, cond, List, ◌++◌, Float, take, drop, replicate}
+use Rattle.std.specs.Prelude.{◌≡◌, ℕ, ◌+◌, ◌-◌, min, Bool, cond, List, ◌++◌, Float, take, drop, replicate}
 use Rattle.std.proofs.Math.ListN as List
 use Rattle.event.specs.declared.Fade.{Fade}
 use Rattle.event.specs.Fades.{curve}
@@ -8,6 +8,14 @@ use Rattle.floats.specs.Arithmetic.{◌+ˢ◌, ◌-ˢ◌, ◌×ˢ◌, zeroᶠ, o
 use Rattle.ledger.specs.BlockSamples.{gained}
 use Rattle.runs.specs.declared.ClipPart.{ClipPart}
 use Rattle.runs.specs.Walk.{zipped}
+
+-- what the calls of a closure give is h of the sample that they take
+abbrev pub Maps : (post : Float → Float → Type 0) → (h : Float → Float) → Type 0
+Maps post h = (a x : Float) → post a x → x ≡ h a
+
+-- and h of the two samples
+abbrev pub Joins : (post : Float → Float → Float → Type 0) → (h : Float → Float → Float) → Type 0
+Joins post h = (a y x : Float) → post a y x → x ≡ h a y
 
 -- x, x + step, ..
 abbrev pub chain : (step x : Float) → ℕ → List Float

@@ -1,6 +1,5 @@
 -- A fresh engine.
 use Rattle.std.specs.Prelude.{ℕ, Bool, cond, ◌||◌, replicate, ◌==◌, nat_lt}
-use Rattle.std.specs.Float.Ieee.{div}
 use Rattle.event.specs.declared.ReplayMode.{ReplayMode}
 use Rattle.event.specs.declared.ReplayMode.TheVariants.{All}
 use Rattle.ready.specs.Waiting as Waiting

@@ -1,14 +1,13 @@
 -- An edit of either kind, on every engine.
-use Rattle.std.specs.Prelude.{Bool, true, false, cond, ◌==◌, slice_index_or, slice_set, Float}
-use Rattle.std.specs.Float.Ieee.{lt, add}
+use Rattle.std.specs.Prelude.{ℕ, Bool, true, false, cond, ◌==◌, slice_index_or, slice_set, Float}
 use Rattle.event.specs.declared.EventId.{EventId}
 use Rattle.event.specs.declared.Edit.{Edit}
 use Rattle.event.specs.Events.{edited_by}
 use Rattle.event.specs.Blank.{blank}
 use Rattle.floats.specs.Arithmetic.{◌<ᶠ◌}
 use Rattle.lists.specs.declared.ActiveMap.{ActiveMap}
-use Rattle.lists.specs.declared.Found.{Found}
-use Rattle.lists.specs.declared.Found.TheVariants.{At, Nothing}
+use Rattle.std.specs.declared.option.Option.{Option as Found}
+use Rattle.std.specs.declared.option.Option.TheVariants.{Some, None}
 use Rattle.lists.specs.Index.{found_id}
 use Rattle.lists.specs.Edits as EditMaps
 use Rattle.ledger.specs.Calls.{EditKind, applied, past, stored}
@@ -24,10 +23,10 @@ abbrev pub index_of : Sequencer → ActiveMap
 index_of s = record { ids = s.active_map; len = s.active_len }
 
 -- the edited event's place in the sounding list; whether the edit ends before the threshold
-unfoldable pub changed_by : Sequencer → EventId → Edit → Found → (over : Bool) → Outcome
-changed_by s k d (At i) over = record { sequencer = with_sounding s (slice_set s.active i (edited_by d (slice_index_or s.active i blank))); answer = said applied }
-changed_by s k d Nothing true = record { sequencer = s; answer = said past }
-changed_by s k d Nothing false = record { sequencer = with_edits s (EditMaps.stored s.edit_map k d); answer = said stored }
+unfoldable pub changed_by : Sequencer → EventId → Edit → Found ℕ → (over : Bool) → Outcome
+changed_by s k d (Some i) over = record { sequencer = with_sounding s (slice_set s.active i (edited_by d (slice_index_or s.active i blank))); answer = said applied }
+changed_by s k d None true = record { sequencer = s; answer = said past }
+changed_by s k d None false = record { sequencer = with_edits s (EditMaps.stored s.edit_map k d); answer = said stored }
 
 unfoldable pub changed : Sequencer → EventId → Edit → Outcome
 unfolding changed_by

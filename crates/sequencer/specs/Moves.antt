@@ -1,6 +1,7 @@
 -- How events move between the engine's lists, on every engine: what the functions of src/moves.rt make of it. The ledger knows nothing of these; `claim` joins them.
-use Rattle.std.specs.Prelude.{ℕ, zero, suc, ◌+◌, ◌-◌, ◌%◌, ◌^◌, min, Bool, true, false, cond, ◌&&◌, List, get_or, nat_le, nat_lt, slice_index_or, slice_set, Float}
-use Rattle.std.specs.Float.Ieee.{lt, le, add, sub, mul}
+use Rattle.std.specs.Prelude.{ℕ, zero, suc, ◌+◌, ◌-◌, ◌%◌, ◌^◌, min, cond, ◌&&◌, get_or, nat_le, nat_lt, slice_index_or, slice_set, Float}
+use Rattle.std.specs.Float.Ieee.{lt, le}
+use Rattle.event.specs.declared.Edit.{Edit}
 use Rattle.event.specs.declared.Event.{Event}
 use Rattle.event.specs.declared.ReplayMode.{ReplayMode}
 use Rattle.event.specs.declared.ReplayMode.TheVariants.{All, None}
@@ -8,8 +9,8 @@ use Rattle.event.specs.Events.{edited_by}
 use Rattle.event.specs.Blank.{blank}
 use Rattle.ready.specs.declared.Ready.{Ready}
 use Rattle.ready.specs.Waiting.{pushed, popped}
-use Rattle.lists.specs.declared.FoundEdit.{FoundEdit}
-use Rattle.lists.specs.declared.FoundEdit.TheVariants.{Stored, Missing}
+use Rattle.std.specs.declared.option.Option.{Option as Found}
+use Rattle.std.specs.declared.option.Option.TheVariants.{Some, None as Missing}
 use Rattle.lists.specs.Index.{no_id}
 use Rattle.lists.specs.Edits.{found_edit, removed}
 use Rattle.floats.specs.Arithmetic.{◌+ᵈ◌, ◌-ᵈ◌, ◌×ᵈ◌, halfᶠ}
@@ -49,9 +50,9 @@ pushed_past s e =
 
 -- ---- the heap's first becomes active, with its edit
 
-unfoldable pub activated_by : Sequencer → Event → FoundEdit → Sequencer
+unfoldable pub activated_by : Sequencer → Event → Found Edit → Sequencer
 unfolding popped_ready pushed_active
-activated_by s e (Stored d) = pushed_active (popped_ready (with_edits s (removed s.edit_map e.id))) (edited_by d e)
+activated_by s e (Some d) = pushed_active (popped_ready (with_edits s (removed s.edit_map e.id))) (edited_by d e)
 activated_by s e Missing = pushed_active (popped_ready s) e
 
 unfoldable pub activated : Sequencer → Event → Sequencer

@@ -1,6 +1,5 @@
 -- A push of any kind, on every engine.
-use Rattle.std.specs.Prelude.{ℕ, ◌+◌, ◌%◌, ◌^◌, min, cond, ◌==◌, Float}
-use Rattle.std.specs.Float.Ieee.{add, sub}
+use Rattle.std.specs.Prelude.{◌+◌, ◌%◌, ◌^◌, min, cond, ◌==◌, Float}
 use Rattle.event.specs.declared.Event.{Event}
 use Rattle.event.specs.declared.Fade.{Fade}
 use Rattle.event.specs.declared.Source.{Source}

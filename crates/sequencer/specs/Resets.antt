@@ -1,6 +1,6 @@
 -- Reset and a change of the rate, on every engine.
 use Rattle.std.specs.Prelude.{ℕ, zero, suc, ◌+◌, ◌%◌, ◌^◌, min, cond, List, ◌==◌, slice_index_or, slice_set, Float}
-use Rattle.std.specs.Float.Ieee.{eq, div}
+use Rattle.std.specs.Float.Ieee.{eq}
 use Rattle.event.specs.declared.Event.{Event}
 use Rattle.event.specs.declared.ReplayMode.{ReplayMode}
 use Rattle.event.specs.declared.ReplayMode.TheVariants.{All, None}

@@ -1,6 +1,6 @@
 -- Document 02, Paper 13: "Beside its compared answer a push on the engine itself now says how many levels its event rose". What it says on every engine; crate `rises` shows that on a reached one it is the paper's number.
 use Rattle.std.specs.Prelude.{ℕ, ◌+◌, min, cond, ◌==◌, nat_lt, Float}
-use Rattle.std.specs.Float.Ieee.{lt, add, sub}
+use Rattle.std.specs.Float.Ieee.{lt}
 use Rattle.event.specs.declared.Event.{Event}
 use Rattle.event.specs.declared.Fade.{Fade}
 use Rattle.event.specs.declared.Source.{Source}

@@ -16,8 +16,8 @@ use Rattle.event.specs.Blank.{blank}
 use Rattle.floats.specs.Arithmetic.{◌+ᵈ◌, ◌-ᵈ◌, ◌×ᵈ◌, halfᶠ}
 use Rattle.ready.specs.Waiting.{popped}
 use Rattle.lists.specs.Index.{no_id}
-use Rattle.lists.specs.declared.FoundEdit.{FoundEdit}
-use Rattle.lists.specs.declared.FoundEdit.TheVariants.{Stored, Missing}
+use Rattle.std.specs.declared.option.Option.{Option as Found}
+use Rattle.std.specs.declared.option.Option.TheVariants.{Some, None as Missing}
 use Rattle.lists.specs.Edits.{found_edit, removed}
 use Rattle.sequencer.specs.declared.Sequencer.{Sequencer}
 use Rattle.sequencer.specs.Parts.{with_ready, with_active, with_past, with_edits, with_times, with_let_go}
@@ -48,8 +48,8 @@ pub activated_len : (s : Sequencer) (e : Event) → 0 < s.ready_len → s.ready_
 unfolding activated activated_by
 activated_len s e p q = go (found_edit s.edit_map e.id)
   where
-    go : (f : FoundEdit) → (activated_by s e f).ready_len ≡ s.ready_len - 1
-    go (Stored d) =
+    go : (f : Found Edit) → (activated_by s e f).ready_len ≡ s.ready_len - 1
+    go (Some d) =
         let t = with_edits s (removed s.edit_map e.id) in
         pushed_active_len (popped_ready t) (edited_by d e) ∙ popped_len t p q
     go Missing = pushed_active_len (popped_ready s) e ∙ popped_len s p q
@@ -104,7 +104,7 @@ module _ {s : Sequencer} {f : Event} {t : Sequencer} {e : Event} where
     gives = ap₂ (λ (x : Sequencer) (y : Event). pushed_active (popped_ready x) y) p q ∙ sym (ap (activated_by s f) h);
   }
 
-  pub taking_stored : {d : Edit} → found_edit s.edit_map f.id ≡ Stored d → t ≡ with_edits s (removed s.edit_map f.id) → e ≡ edited_by d f → Taking s f t e
+  pub taking_stored : {d : Edit} → found_edit s.edit_map f.id ≡ Some d → t ≡ with_edits s (removed s.edit_map f.id) → e ≡ edited_by d f → Taking s f t e
   unfolding activated activated_by
   taking_stored h p q = record {
     same = p ∙ ap (λ (x : Sequencer). with_edits s x.edit_map) (sym p);

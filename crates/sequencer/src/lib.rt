@@ -21,7 +21,8 @@ use event::{Event, EventId, Placings, ReplayMode};
 use lists::EditMap;
 pub use readers::Counts;
 
-// Arrays with counts for the Rust's heap and lists. Place i of `active_map` is the number of the event at place i of `active`.
+// Arrays with counts for the Rust's heap and lists: fixed memory, nothing allocated (document 01).
+// Place i of `active_map` is the number of the event at place i of `active`.
 #[derive(Clone, Copy)]
 pub struct Sequencer {
     pub ready: [Event; 256],
@@ -45,6 +46,7 @@ pub struct Sequencer {
 }
 
 // What a call answers: the number of a pushed event; what became of an edit; done; of a block, how its places came; or the number of a refusal.
+// A refusal is its number here: each call returns it (document 01).
 #[derive(Clone, Copy)]
 pub enum Answer {
     Number(EventId),
@@ -56,6 +58,7 @@ pub enum Answer {
     Refused(u64),
 }
 
+// Written out where it is answered: a function for it would take the whole engine by value once more.
 #[derive(Clone, Copy)]
 pub struct Outcome {
     pub sequencer: Sequencer,

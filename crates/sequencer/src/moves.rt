@@ -8,12 +8,11 @@ ghost use Rattle.sequencer.specs.Moves.{pushed_event, pushed_relative, ready_to_
 
 use crate::Sequencer;
 use event::Event;
-use lists::FoundEdit;
 use ready::Ready;
-use runs::least;
 
 impl Sequencer {
-    // ---- one event
+    // ---- one event. A list has a name of its own where it is put into a heap or taken out: the proof needs it.
+    // The heap is made in place: a function for it would take the whole engine by value once more.
 
     // The event waits.
     fn push_ready(mut self, event: Event) -> Sequencer
@@ -21,7 +20,7 @@ impl Sequencer {
     {
         let items = self.ready;
         let heap = Ready {
-            items: items,
+            items,
             len: self.ready_len,
         };
         let heap = heap.push(event);
@@ -37,7 +36,7 @@ impl Sequencer {
     {
         let items = self.ready;
         let heap = Ready {
-            items: items,
+            items,
             len: self.ready_len,
         };
         let heap = heap.pop();
@@ -52,10 +51,9 @@ impl Sequencer {
         ensures { result ≡ pushed_active self event }
     {
         let n = self.active_len;
-        let id = event.id;
         if n < 256 {
             self.active[n] = event;
-            self.active_map[n] = id;
+            self.active_map[n] = event.id;
             self.active_len = n + 1;
         }
         self
@@ -79,10 +77,8 @@ impl Sequencer {
         ensures { result ≡ swap_removed self i }
     {
         let n = self.active_len - 1;
-        let last = self.active[n];
-        self.active[i] = last;
-        let id = self.active_map[n];
-        self.active_map[i] = id;
+        self.active[i] = self.active[n];
+        self.active_map[i] = self.active_map[n];
         self.active_len = n;
         self
     }
@@ -103,8 +99,8 @@ impl Sequencer {
     pub fn push_relative_event(self, mut event: Event) -> Sequencer
         ensures { result ≡ pushed_relative self event }
     {
-        event.start_time = event.start_time + self.time;
-        event.end_time = event.end_time + self.time;
+        event.start_time += self.time;
+        event.end_time += self.time;
         self.push_event(event)
     }
 
@@ -115,21 +111,12 @@ impl Sequencer {
         ensures { result ≡ activated self (slice_index_or self.ready 0 blank) }
     {
         let first = self.ready[0];
-        let id = first.id;
-        let edits = self.edit_map;
-        let found = edits.find(id);
-        match found {
-            FoundEdit::Stored(edit) => {
-                let event = first.edited(edit);
-                let edits = edits.remove(id);
-                self.edit_map = edits;
-                let s = self.pop_ready();
-                s.push_active(event)
+        match self.edit_map.find(first.id) {
+            Some(edit) => {
+                self.edit_map = self.edit_map.remove(first.id);
+                self.pop_ready().push_active(first.edited(edit))
             }
-            FoundEdit::Missing => {
-                let s = self.pop_ready();
-                s.push_active(first)
-            }
+            None => self.pop_ready().push_active(first),
         }
     }
 
@@ -157,8 +144,7 @@ impl Sequencer {
         ensures { result ≡ pushed_past (swap_removed self i) (slice_index_or self.active i blank) }
     {
         let event = self.active[i];
-        let s = self.swap_remove(i);
-        s.push_past(event)
+        self.swap_remove(i).push_past(event)
     }
 
     // Those that end by `limit` are past. The one that fills a place is looked at next.
@@ -174,7 +160,7 @@ impl Sequencer {
             if event.end_time <= limit {
                 self = self.finish(i);
             } else {
-                i = i + 1;
+                i += 1;
             }
         }
         self
@@ -195,9 +181,10 @@ impl Sequencer {
         ensures { result ≡ advanced self end }
     {
         let limit = self.time + 0.5 * self.sample_duration;
-        let s = self.release_past();
-        let s = s.ready_to_active(end);
-        let mut s = s.active_to_past(limit);
+        let mut s = self
+            .release_past()
+            .ready_to_active(end)
+            .active_to_past(limit);
         s.time = end;
         s
     }
@@ -208,18 +195,15 @@ impl Sequencer {
     pub(crate) fn all_to_ready(mut self) -> Sequencer
         ensures { result ≡ all_to_ready self }
     {
-        let past = least(self.past_len, 256);
-        let n = past + least(self.active_len, 256);
-        let mut i = 0;
-        while i < n {
-            let mut event = self.past[0];
-            if i < past {
-                event = self.past[i];
+        let past = self.past_len.min(256);
+        let n = past + self.active_len.min(256);
+        for i in 0..n {
+            let event = if i < past {
+                self.past[i]
             } else {
-                event = self.active[i - past];
-            }
+                self.active[i - past]
+            };
             self = self.push_ready(event);
-            i = i + 1;
         }
         self.past_len = 0;
         self.active_len = 0;

@@ -4,7 +4,7 @@ ghost use Rattle.sequencer.specs.Readers.{counts_of, place_in};
 
 use crate::Sequencer;
 use event::EventId;
-use lists::{ActiveMap, Found};
+use lists::ActiveMap;
 
 // How many events wait, sound, are finished, and were let go.
 #[derive(Clone, Copy)]
@@ -36,12 +36,13 @@ impl Sequencer {
     }
 
     // The place of a number in the sounding list.
-    pub fn place(self, id: EventId) -> Found
+    pub fn place(self, id: EventId) -> Option<usize>
         ensures { result ≡ place_in self id }
     {
+        // The proof needs a name for the list.
         let ids = self.active_map;
         let index = ActiveMap {
-            ids: ids,
+            ids,
             len: self.active_len,
         };
         index.find(id)

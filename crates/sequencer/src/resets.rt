@@ -6,7 +6,6 @@ use crate::{Answer, Outcome, Sequencer};
 use event::ReplayMode;
 use lists::EditMap;
 use refusals::rate_refusal;
-use runs::least;
 
 fn cleared_edits(mut edits: EditMap) -> EditMap
     ensures { result ≡ cleared_edits edits }
@@ -20,13 +19,9 @@ impl Sequencer {
     fn rewind_ready(mut self) -> Sequencer
         ensures { result ≡ rewound_ready self }
     {
-        let n = least(self.ready_len, 256);
-        let mut i = 0;
-        while i < n {
-            let event = self.ready[i];
-            let event = event.rewind();
-            self.ready[i] = event;
-            i = i + 1;
+        let n = self.ready_len.min(256);
+        for i in 0..n {
+            self.ready[i] = self.ready[i].rewind();
         }
         self
     }
@@ -35,28 +30,23 @@ impl Sequencer {
     pub fn reset(mut self) -> Sequencer
         ensures { result ≡ resets self }
     {
-        let top: f64 = 1.0 / 0.0;
-        let mode = self.mode;
-        match mode {
+        match self.mode {
             ReplayMode::All => {
-                let s = self.all_to_ready();
-                let mut s = s.rewind_ready();
+                let mut s = self.all_to_ready().rewind_ready();
                 s.time = 0.0;
-                s.active_threshold = -top;
+                s.active_threshold = f64::NEG_INFINITY;
                 s
             }
             ReplayMode::None => {
-                let n = least(self.past_len, 256)
-                    + (least(self.ready_len, 256) + least(self.active_len, 256));
-                self.let_go = std::num::wrapping_add_u64(self.let_go, n as u64);
-                let edits = self.edit_map;
-                let edits = cleared_edits(edits);
-                self.edit_map = edits;
+                let n = self.past_len.min(256)
+                    + (self.ready_len.min(256) + self.active_len.min(256));
+                self.let_go = self.let_go.wrapping_add(n as u64);
+                self.edit_map = cleared_edits(self.edit_map);
                 self.past_len = 0;
                 self.active_len = 0;
                 self.ready_len = 0;
                 self.time = 0.0;
-                self.active_threshold = -top;
+                self.active_threshold = f64::NEG_INFINITY;
                 self
             }
         }
@@ -69,11 +59,10 @@ impl Sequencer {
         if self.sample_rate == rate {
             return self;
         }
-        let top: f64 = 1.0 / 0.0;
         let mut s = self.all_to_ready();
         s.sample_rate = rate;
         s.sample_duration = 1.0 / rate;
-        s.active_threshold = -top;
+        s.active_threshold = f64::NEG_INFINITY;
         s
     }
 
@@ -81,11 +70,10 @@ impl Sequencer {
     pub fn set_sample_rate(self, rate: f64) -> Outcome
         ensures { result ≡ rates self rate }
     {
-        let no = rate_refusal(rate);
-        if no != 0 {
+        if let Some(refusal) = rate_refusal(rate) {
             return Outcome {
                 sequencer: self,
-                answer: Answer::Refused(no),
+                answer: Answer::Refused(refusal.number()),
             };
         }
         Outcome {

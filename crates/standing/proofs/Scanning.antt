@@ -1,30 +1,21 @@
--- A scan of an array's first events for a number. Assumes nothing.
-use Prim.Native.Nat.{ℕ, ◌+◌, ◌≤◌, ◌<◌, min}
-use mathlib.Core.Path.{◌≡◌, refl, sym, ap, ◌∙◌}
-use mathlib.Core.Bool.{true, false}
-use mathlib.Core.List.{List}
-use native.Mathlib.Omega.{arith}
-use native.Mathlib.Numerals.{add-one}
-use borrow.Author.Tests.{eq-eqb, ne_eqb}
-use lib.ListN.{length, get_or, take, drop, length-take, drop_of_length-le}
-use lib.Seq.{drop-cons, get_or-take}
+-- A search of an array's first events for a number. Assumes nothing.
+use Rattle.std.specs.Prelude.{ℕ, ◌<◌, ◌||◌, Bool, ◌≡◌, refl, List, min, eqb, length, take}
+use Rattle.std.specs.List.{list_any}
+use Rattle.std.proofs.Common.{ap, ◌∙◌, sym, arith}
+use Rattle.std.proofs.Math.Decide.{dec_lt}
+use Rattle.std.proofs.lemmas.List.{take_all}
+use Rattle.std.proofs.lemmas.List.Recursion.{same_from_clauses}
 use Rattle.event.specs.declared.Event.{Event}
 use Rattle.event.specs.Events.{number_of}
-use Rattle.event.specs.Blank.{blank}
 use Rattle.ledger.specs.Lists.{has}
 
-module _ (k len : ℕ) (xs : List Event) (n i : ℕ) (z : length xs ≡ 256) (e : n ≡ min len 256) where
-  inside : i < n → i < length (take len xs)
-  inside h = omega (arith, length-take len xs, z, e, h)
+pub any-has : (k : ℕ) (xs : List Event) → list_any (λ (e : Event). eqb (number_of e) k) xs ≡ has k xs
+any-has k xs = same_from_clauses (list_any (λ (e : Event). eqb (number_of e) k)) (has k) (λ (e : Event) (b : Bool). eqb (number_of e) k || b) refl (λ _ _. refl) (λ _ _. refl) xs
 
-  here : i < n → get_or (take len xs) i blank ≡ get_or xs i blank
-  here h = get_or-take len xs i blank (omega (arith, e, h))
-
-  pub found : i < n → number_of (get_or xs i blank) ≡ k → has k (drop i (take len xs)) ≡ true
-  found h q = ap (has k) (drop-cons (take len xs) i blank (inside h)) ∙ rw (here h, eq-eqb _ _ q) refl
-
-  pub next : i < n → (number_of (get_or xs i blank) ≡ k → ⊥) → has k (drop i (take len xs)) ≡ has k (drop (i + 1) (take len xs))
-  next h q = rw (add-one i) (ap (has k) (drop-cons (take len xs) i blank (inside h)) ∙ rw (here h, ne_eqb _ _ q) refl)
-
-  pub over : n ≤ i → has k (drop i (take len xs)) ≡ false
-  over h = let q : length (take len xs) ≤ i = omega (arith, length-take len xs, z, e, h) in ap (has k) (drop_of_length-le (take len xs) q)
+-- an array of 256 has no more
+pub first-ones : (n len : ℕ) (xs : List Event) → length xs ≡ 256 → n ≡ min len 256 → take n xs ≡ take len xs
+first-ones n len xs z e = go (dec_lt 256 len)
+  where
+    go : Dec (256 < len) → take n xs ≡ take len xs
+    go (yes h) = take_all n xs (omega arith) ∙ sym (take_all len xs (omega arith))
+    go (no h) = let q : n ≡ len = omega arith in ap (λ (m : ℕ). take m xs) q

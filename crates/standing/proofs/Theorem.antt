@@ -1,6 +1,6 @@
 -- What a page draws is the plain ledger's, after any list of calls from any creation, refused ones included: the engine's standing of a number is the ledger's, each number that a push was answered with stands in exactly one of W, S, F and G, and 'let go' is drawn
 -- exactly where G has the number. The sum at the foot is the claim's. Assumes nothing.
-use Rattle.std.specs.Prelude.{ℕ, ◌+◌, ◌^◌, ◌≤◌, ◌<◌, ◌≡◌, Bool, true, false, ◌||◌, List, [], ◌∷◌, ◌++◌, eqb, length}
+use Rattle.std.specs.Prelude.{ℕ, ◌+◌, ◌^◌, ◌≤◌, ◌<◌, ◌≡◌, Bool, true, false, ◌||◌, List, [], ◌∷◌, ◌++◌, eqb}
 use Rattle.std.proofs.Math.Path.{refl, ap}
 use Rattle.std.proofs.Common.{sym, ◌∙◌, arith}
 use Rattle.std.proofs.Math.Bool.{cond}

@@ -1,3 +1,3 @@
 pub mod Parts
 pub mod Mixing
-pub mod Running
+pub mod Folding

@@ -9,7 +9,6 @@ use digests::mixed;
 use event::{Edit, Event, EventId, Fade, Source, Unit};
 use lists::EditMap;
 use realseq::{Message, Messages, Returned};
-use runs::least;
 
 fn mixed_time(digest: u64, x: f64) -> u64
     ensures { result ≡ mixed_by digest (to_bits binary64 x) }
@@ -36,8 +35,7 @@ fn curve_number(fade: Fade) -> u64
 fn mixed_unit(digest: u64, unit: Unit) -> u64
     ensures { result ≡ mixed_all digest (unit_words unit) }
 {
-    let source = unit.source;
-    match source {
+    match unit.source {
         Source::Held(level) => mixed(mixed(mixed(mixed_sample(mixed(digest, 0), level), 0), 0), 0),
         Source::Ramp(value, step) => {
             let d = mixed_sample(mixed_sample(mixed(digest, 1), value), step);
@@ -53,15 +51,12 @@ fn mixed_unit(digest: u64, unit: Unit) -> u64
 fn mixed_event(digest: u64, event: Event) -> u64
     ensures { result ≡ mixed_all digest (event_words event) }
 {
-    let id = event.id;
-    let d = mixed(digest, id.0);
+    let d = mixed(digest, event.id.0);
     let d = mixed_time(mixed_time(d, event.start_time), event.end_time);
     let d = mixed_time(mixed_time(d, event.fade_in), event.fade_out);
     let d = mixed_sample(d, event.gain);
-    let fade = event.fade_ease;
-    let d = mixed(d, curve_number(fade));
-    let unit = event.unit;
-    mixed_unit(d, unit)
+    let d = mixed(d, curve_number(event.fade_ease));
+    mixed_unit(d, event.unit)
 }
 
 fn mixed_edit(digest: u64, id: EventId, edit: Edit) -> u64
@@ -89,78 +84,49 @@ fn mixed_message(digest: u64, message: Message) -> u64
 pub(crate) fn ordered_events(items: [Event; 256], n: usize) -> u64
     ensures { result ≡ ordered_events items n }
 {
-    let most = least(n, 256);
-    let mut digest: u64 = 0;
-    let mut i: usize = 0;
-    while i < most {
-        let event = items[i];
-        digest = mixed_event(digest, event);
-        i = i + 1;
-    }
-    digest
+    items[..n.min(256)]
+        .iter()
+        .fold(0, |digest, event| mixed_event(digest, *event))
 }
 
 // The first `n` events as a set.
 pub(crate) fn unordered_events(items: [Event; 256], n: usize) -> u64
     ensures { result ≡ unordered_events items n }
 {
-    let most = least(n, 256);
-    let mut digest: u64 = 0;
-    let mut i: usize = 0;
-    while i < most {
-        let event = items[i];
-        digest = std::num::wrapping_add_u64(digest, mixed_event(0, event));
-        i = i + 1;
-    }
-    digest
+    items[..n.min(256)].iter().fold(
+        0,
+        |digest, event| digest.wrapping_add(mixed_event(0, *event)),
+    )
 }
 
 // The numbers at the first `n` places.
 pub(crate) fn index(ids: [EventId; 256], n: usize) -> u64
     ensures { result ≡ index_digest ids n }
 {
-    let most = least(n, 256);
-    let mut digest: u64 = 0;
-    let mut i: usize = 0;
-    while i < most {
-        let id = ids[i];
-        digest = mixed(digest, id.0);
-        i = i + 1;
-    }
-    digest
+    ids[..n.min(256)]
+        .iter()
+        .fold(0, |digest, id| mixed(digest, id.0))
 }
 
 // The stored edits as a set.
 pub(crate) fn edits(map: EditMap) -> u64
     ensures { result ≡ edits_digest map }
 {
-    let most = least(map.len, 256);
-    let mut digest: u64 = 0;
-    let mut i: usize = 0;
-    while i < most {
-        let stored = map.items[i];
-        let id = stored.id;
-        let edit = stored.edit;
-        digest = std::num::wrapping_add_u64(digest, mixed_edit(0, id, edit));
-        i = i + 1;
-    }
-    digest
+    map.items[..map.len.min(256)].iter().fold(
+        0,
+        |digest, stored| digest.wrapping_add(mixed_edit(0, stored.id, stored.edit)),
+    )
 }
 
-// The queued messages, the oldest first.
+// The queued messages, the oldest first. A loop: as a fold over places of the ring the proof did not close.
 pub(crate) fn messages(q: Messages) -> u64
     ensures { result ≡ messages_digest q }
 {
-    let most = least(q.count, 64);
     let first = q.first % 64;
-    let mut digest: u64 = 0;
-    let mut i: usize = 0;
-    while i < most {
-        let at = (first + i) % 64;
-        let slot = q.slots[at];
-        let message = slot.message;
-        digest = mixed_message(digest, message);
-        i = i + 1;
+    let mut digest = 0;
+    for i in 0..q.count.min(64) {
+        let slot = q.slots[(first + i) % 64];
+        digest = mixed_message(digest, slot.message);
     }
     digest
 }
@@ -169,13 +135,7 @@ pub(crate) fn messages(q: Messages) -> u64
 pub(crate) fn returned(r: Returned) -> u64
     ensures { result ≡ returned_digest r }
 {
-    let most = least(r.count, 64);
-    let mut digest: u64 = 0;
-    let mut i: usize = 0;
-    while i < most {
-        let id = r.ids[i];
-        digest = mixed(digest, id.0);
-        i = i + 1;
-    }
-    digest
+    r.ids[..r.count.min(64)]
+        .iter()
+        .fold(0, |digest, id| mixed(digest, id.0))
 }

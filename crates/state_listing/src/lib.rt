@@ -59,6 +59,7 @@ fn put_answer(answer: Answer, out: &mut [u8], at: usize) -> usize
     }
 }
 
+// Not one with `put_answer`: the two enums have cases of their own, and each arm is one line.
 fn put_desk_answer(answer: realseq::Answer, out: &mut [u8], at: usize) -> usize
     ensures { text out.new result ≡ add_all (desk_answer_part answer) (text out.old at) }
 {
@@ -74,20 +75,15 @@ fn put_desk_answer(answer: realseq::Answer, out: &mut [u8], at: usize) -> usize
 fn put_lists(s: Sequencer, out: &mut [u8], at: usize) -> usize
     ensures { text out.new result ≡ add_all (list_parts s) (text out.old at) }
 {
-    let ready = s.ready;
-    let active = s.active;
-    let past = s.past;
-    let edits = s.edit_map;
-    let ids = s.active_map;
-    let d = digest::unordered_events(ready, s.ready_len);
+    let d = digest::unordered_events(s.ready, s.ready_len);
     let to = put_list(b" waiting=", s.ready_len, d, out, at);
-    let d = digest::ordered_events(active, s.active_len);
+    let d = digest::ordered_events(s.active, s.active_len);
     let to = put_list(b" sounding=", s.active_len, d, out, to);
-    let d = digest::ordered_events(past, s.past_len);
+    let d = digest::ordered_events(s.past, s.past_len);
     let to = put_list(b" finished=", s.past_len, d, out, to);
-    let d = digest::edits(edits);
-    let to = put_list(b" edits=", edits.len, d, out, to);
-    let d = digest::index(ids, s.active_len);
+    let d = digest::edits(s.edit_map);
+    let to = put_list(b" edits=", s.edit_map.len, d, out, to);
+    let d = digest::index(s.active_map, s.active_len);
     put_list(b" index=", s.active_len, d, out, to)
 }
 
@@ -139,10 +135,9 @@ pub fn engine_line(kind: u8, answer: Answer, s: Sequencer, out: &mut [u8]) -> us
 pub fn desk_line(kind: u8, answer: realseq::Answer, d: SequencerBackend, out: &mut [u8]) -> usize
     ensures { text out.new result ≡ add_all (desk_line kind answer d) (text out.old 0) }
 {
-    let s = d.sequencer;
     let to = put_hex(kind as u64, 2, out, 0);
     let to = put_desk_answer(answer, out, to);
-    let to = put_state(s, out, to);
+    let to = put_state(d.sequencer, out, to);
     let to = put_queues(d, out, to);
     put_bytes(b"\n", out, to)
 }

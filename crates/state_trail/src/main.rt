@@ -3,27 +3,17 @@
 
 use apply::Applied;
 use event::MixOrder;
-use runs::least;
 use sequencer::{Answer, Outcome, Sequencer};
 use std::io;
 use std::io::{BufWriter, Write};
-use tape::reader::{Call, Cursor, EditRecord, Read};
-
-// A call that has an answer of its own.
-fn edit(s: Sequencer, kind: u8, p: EditRecord) -> Outcome {
-    let id = p.id;
-    match kind {
-        4 => s.edit(id, p.end_time, p.fade_out),
-        _ => s.edit_relative(id, p.end_time, p.fade_out),
-    }
-}
+use tape::reader::{Call, Cursor, Read};
 
 fn process(s: Sequencer, size: usize, pool: &[f32], samples: &mut [f32]) -> Outcome {
-    let n = least(64 * least(s.outputs, 8), samples.len());
+    let n = (64 * s.outputs.min(8)).min(samples.len());
     s.process(MixOrder::Forward, size, pool, &mut samples[..n])
 }
 
-// Every other call: done or refused.
+// Every other call: done or refused, by the number that apply::Applied has.
 fn rest(a: Applied) -> Outcome {
     let sequencer = a.sequencer;
     if a.refusal == 0 {
@@ -43,8 +33,8 @@ fn play(s: Sequencer, call: Call, pool: &[f32], samples: &mut [f32]) -> Outcome 
         Call::Push(p) => apply::push(s, 1, p),
         Call::PushRelative(p) => apply::push(s, 2, p),
         Call::PushDuration(p) => apply::push(s, 3, p),
-        Call::Edit(p) => edit(s, 4, p),
-        Call::EditRelative(p) => edit(s, 5, p),
+        Call::Edit(p) => s.edit(p.id, p.end_time, p.fade_out),
+        Call::EditRelative(p) => s.edit_relative(p.id, p.end_time, p.fade_out),
         Call::Process(n) => process(s, n as usize, pool, samples),
         _ => rest(apply::apply(s, call, pool, samples)),
     }
@@ -62,27 +52,14 @@ fn list_engine<W: Write>(out: &mut W, kind: u8, answer: Answer, s: Sequencer) ->
 
 // The line of a record that 14 or 15 refuses.
 fn stop<W: Write>(out: &mut W, r: Read, s: Sequencer) -> io::Result<()> {
-    match r {
-        Read::Refused { kind, number } => list_engine(out, kind, Answer::Refused(number as u64), s),
-        Read::End => Ok(()),
-        Read::Record {
-            kind: _,
-            call: _,
-            next: _,
-        } => Ok(()),
+    if let Read::Refused { kind, number } = r {
+        list_engine(out, kind, Answer::Refused(number as u64), s)?;
     }
+    Ok(())
 }
 
 fn is_refused_creation(answer: Answer) -> bool {
-    match answer {
-        Answer::Refused(n) => n == 1,
-        Answer::Number(_) => false,
-        Answer::Applied => false,
-        Answer::Past => false,
-        Answer::Stored => false,
-        Answer::Done => false,
-        Answer::Rendered(_) => false,
-    }
+    matches!(answer, Answer::Refused(1))
 }
 
 fn run<W: Write>(out: &mut W, bytes: &[u8], pool: &[f32]) -> io::Result<()> {
@@ -90,9 +67,7 @@ fn run<W: Write>(out: &mut W, bytes: &[u8], pool: &[f32]) -> io::Result<()> {
     let mut s = apply::start();
     let mut first = true;
     let mut at: usize = 0;
-    let mut turns = bytes.len();
-    while turns > 0 {
-        turns = turns - 1;
+    for _ in 0..bytes.len() {
         let c = Cursor { at, first };
         let r = c.read(bytes);
         let Read::Record { kind, call, next } = r else {
@@ -100,9 +75,8 @@ fn run<W: Write>(out: &mut W, bytes: &[u8], pool: &[f32]) -> io::Result<()> {
         };
         let o = play(s, call, pool, &mut samples);
         s = o.sequencer;
-        let answer = o.answer;
-        list_engine(out, kind, answer, s)?;
-        if is_refused_creation(answer) {
+        list_engine(out, kind, o.answer, s)?;
+        if is_refused_creation(o.answer) {
             return Ok(());
         }
         first = next.first;

@@ -1,6 +1,6 @@
 -- Document 01, "The tape", and Paper 5's kinds: records of every kind, cut ones and unknown bytes, by computation (the example tape is `Example`). Assumes nothing.
-use Rattle.std.specs.Prelude.{◌≡◌, ℕ, ◌+◌, ◌-◌, ◌^◌, true, false, List, [], ◌∷◌, ◌++◌, take, replicate, pos, negsuc, refl, Float}
-use Rattle.std.specs.Float.{nan, inf, fin}
+use Rattle.std.specs.Prelude.{◌≡◌, ℕ, true, false, List, [], ◌∷◌, ◌++◌, take, replicate, pos, negsuc, refl, Float}
+use Rattle.std.specs.Float.{nan, fin}
 use Rattle.std.specs.Float.Ieee.{of_bits}
 use Rattle.event.specs.declared.Fade.{Fade}
 use Rattle.event.specs.declared.Fade.TheVariants.{Power, Smooth}

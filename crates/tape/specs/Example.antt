@@ -6,7 +6,6 @@ use Rattle.event.specs.declared.Fade.TheVariants.{Smooth}
 use Rattle.event.specs.declared.ReplayMode.TheVariants.{All}
 use Rattle.event.specs.declared.Source.TheVariants.{Held}
 use Rattle.tape.specs.declared.reader.Cursor.{Cursor}
-use Rattle.tape.specs.declared.reader.Read.{Read}
 use Rattle.tape.specs.declared.reader.Read.TheVariants.{Record, Refused, End}
 use Rattle.tape.specs.declared.reader.Call.TheVariants.{Create, Push, Tick, Process, SetSampleRate}
 use Rattle.tape.specs.Fields.{field, from_little_endian}

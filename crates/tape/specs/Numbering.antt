@@ -1,9 +1,9 @@
 -- A mode, curve or source byte is known exactly if it is the number of a case (event/specs/Numbers), and is read as that case. Assumes nothing.
-use Rattle.std.specs.Prelude.{◌≡◌, ℕ, ◌<◌, ◌≤◌, Bool, true, false, cond, T, List, ◌==◌, ◌≢◌, refl, Float}
-use Rattle.std.proofs.Common.{sym, ap, ◌∙◌, arith, ltb-true, ltb-false, eqb-true}
+use Rattle.std.specs.Prelude.{◌≡◌, ℕ, ◌≤◌, Bool, true, false, cond, T, List, ◌==◌, ◌≢◌, refl}
+use Rattle.std.proofs.Common.{arith, ltb-false, eqb-true}
 use Rattle.std.proofs.lemmas.Bool.{eqb-false}
 use Rattle.std.specs.Float.{binary32}
-use Rattle.std.specs.Float.Ieee.{fits, of_bits}
+use Rattle.std.specs.Float.Ieee.{fits}
 use Rattle.std.specs.Float.Ieee.Bits.{of_bits-to_bits}
 use Rattle.event.specs.declared.Fade.{Fade}
 use Rattle.event.specs.declared.Fade.TheVariants.{Power, Smooth}

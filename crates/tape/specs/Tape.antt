@@ -3,7 +3,6 @@ use Rattle.std.specs.Prelude.{ℕ, ◌+◌, ◌-◌, Bool, true, false, cond, Li
 use Rattle.std.specs.Float.{binary32, binary64}
 use Rattle.floats.specs.Arithmetic.{oneᶠ}
 use Rattle.tape.specs.Fields.{field}
-use Rattle.event.specs.declared.EventId.{EventId}
 use Rattle.event.specs.declared.Fade.{Fade}
 use Rattle.event.specs.declared.Fade.TheVariants.{Power, Smooth}
 use Rattle.event.specs.declared.ReplayMode.{ReplayMode}

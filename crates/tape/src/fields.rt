@@ -3,19 +3,6 @@ ghost use Rattle.std.specs.Prelude.{◌≡◌, min, from_bits, slice_index};
 ghost use Rattle.std.specs.Float.{binary32, binary64};
 ghost use Rattle.tape.specs.Fields.{field};
 
-fn wide(x: u8) -> u64
-    ensures { result ≡ x }
-{
-    x as u64
-}
-
-// The lesser of the two.
-pub fn least(a: usize, b: usize) -> usize
-    ensures { result ≡ min a b }
-{
-    if a < b { a } else { b }
-}
-
 // The byte at place i, 0 past the end.
 pub fn byte(bs: &[u8], i: usize) -> u8
     ensures { result ≡ slice_index bs.now i }
@@ -27,11 +14,9 @@ pub fn byte(bs: &[u8], i: usize) -> u8
 fn low(bs: &[u8], width: usize) -> u64
     ensures { result ≡ field bs.now 0 (min width 8) }
 {
-    let mut i = least(width, 8);
     let mut n: u64 = 0;
-    while i > 0 {
-        i = i - 1;
-        n = n * 256 + wide(byte(bs, i));
+    for i in (0..width.min(8)).rev() {
+        n = n * 256 + u64::from(byte(bs, i));
     }
     n
 }
@@ -45,6 +30,8 @@ pub fn word(bs: &[u8], at: usize, width: usize) -> u64
     }
     low(&bs[at..], width)
 }
+
+// The four functions below stay apart: each is one expression over `word`, and a trait over the number's type would need an impl with a law for each.
 
 // The little-endian number of four bytes from `at` on.
 pub fn word32(bs: &[u8], at: usize) -> u32

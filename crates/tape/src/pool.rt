@@ -12,10 +12,8 @@ fn sample(k: usize) -> f32
 fn fill(pool: &mut [f32])
     ensures { pool.new ≡ pool_from 0 (length pool.old) }
 {
-    let mut k: usize = 0;
-    while k < pool.len() {
-        pool[k] = sample(k);
-        k = k + 1;
+    for (k, x) in pool.iter_mut().enumerate() {
+        *x = sample(k);
     }
 }
 

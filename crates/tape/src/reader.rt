@@ -50,6 +50,7 @@ pub enum Call {
 }
 
 // A call with its kind and the next cursor; a refusal, 14 or 15, with the kind that stands there; or the tape's end.
+// The refusal is document 01's number: its listing prints it, and the answers of runs and the C entry hand it on.
 #[derive(Clone, Copy)]
 pub enum Read {
     Record { kind: u8, call: Call, next: Cursor },
@@ -61,35 +62,28 @@ pub enum Read {
 pub fn has_gain(kind: u8) -> bool
     ensures { result ≡ gain_kind kind }
 {
-    if 9 < kind { kind < 13 } else { false }
+    matches!(kind, 10..=12)
 }
 
 // The same kind without gain bytes.
 pub fn plain_kind(kind: u8) -> u8
     ensures { result ≡ plain_kind kind }
 {
-    if kind < 10 {
-        return kind;
-    }
-    if kind < 13 { kind - 9 } else { kind }
+    if has_gain(kind) { kind - 9 } else { kind }
 }
 
 // Whether a record of this kind is a push, with a curve and a source byte.
 pub fn is_push(kind: u8) -> bool
     ensures { result ≡ push_kind kind }
 {
-    let k = plain_kind(kind);
-    if 0 < k { k < 4 } else { false }
+    matches!(plain_kind(kind), 1..=3)
 }
 
 // Whether a push's curve or source byte is unknown.
 pub fn is_unknown_push(bs: &[u8]) -> bool
     ensures { result ≡ unknown_push bs.now }
 {
-    if 1 < fields::byte(bs, 33) {
-        return true;
-    }
-    2 < fields::byte(bs, 34)
+    1 < fields::byte(bs, 33) || 2 < fields::byte(bs, 34)
 }
 
 // 14.
@@ -98,21 +92,12 @@ fn is_unknown(first: bool, bs: &[u8]) -> bool
 {
     let kind = fields::byte(bs, 0);
     if first {
-        if kind == 0 {
-            return 1 < fields::byte(bs, 2);
-        }
+        return kind != 0 || 1 < fields::byte(bs, 2);
+    }
+    if kind == 0 || 12 < kind {
         return true;
     }
-    if kind == 0 {
-        return true;
-    }
-    if 12 < kind {
-        return true;
-    }
-    if is_push(kind) {
-        return is_unknown_push(bs);
-    }
-    false
+    is_push(kind) && is_unknown_push(bs)
 }
 
 // A record's length with its kind byte.
@@ -121,22 +106,17 @@ pub fn size_of(kind: u8) -> usize
 {
     match kind {
         0 => 11,
-        1 => 43,
-        2 => 43,
-        3 => 43,
-        4 => 25,
-        5 => 25,
-        6 => 1,
+        1..=3 => 43,
+        4 | 5 => 25,
+        6 | 8 => 1,
         7 => 2,
-        8 => 1,
         9 => 9,
-        10 => 47,
-        11 => 47,
-        12 => 47,
+        10..=12 => 47,
         _ => 0,
     }
 }
 
+// This and `curve_of` are no TryFrom: they answer for every byte, since 14 has refused the unknown ones before.
 fn mode_of(b: u8) -> ReplayMode
     ensures { result ≡ mode_of b }
 {
@@ -158,8 +138,7 @@ fn curve_of(b: u8) -> Fade
 fn source_of(bs: &[u8]) -> Source
     ensures { result ≡ source_of bs.now }
 {
-    let b = fields::byte(bs, 34);
-    match b {
+    match fields::byte(bs, 34) {
         0 => Source::Held(fields::f32_at(bs, 35)),
         1 => Source::Ramp(fields::f32_at(bs, 35), fields::f32_at(bs, 39)),
         _ => Source::Clip(fields::word32(bs, 35), fields::word32(bs, 39)),
@@ -171,43 +150,34 @@ fn gain_of(bs: &[u8]) -> f32
     ensures { result ≡ gain_of bs.now }
 {
     if has_gain(fields::byte(bs, 0)) {
-        return fields::f32_at(bs, 43);
+        fields::f32_at(bs, 43)
+    } else {
+        1.0
     }
-    1.0
 }
 
 // The push record that begins the bytes, field by field.
 pub fn push_of(bs: &[u8]) -> PushRecord
     ensures { result ≡ push_of bs.now }
 {
-    let start_time = fields::f64_at(bs, 1);
-    let end_time = fields::f64_at(bs, 9);
-    let fade_in = fields::f64_at(bs, 17);
-    let fade_out = fields::f64_at(bs, 25);
-    let fade_ease = curve_of(fields::byte(bs, 33));
-    let source = source_of(bs);
-    let gain = gain_of(bs);
     PushRecord {
-        start_time,
-        end_time,
-        fade_in,
-        fade_out,
-        fade_ease,
-        source,
-        gain,
+        start_time: fields::f64_at(bs, 1),
+        end_time: fields::f64_at(bs, 9),
+        fade_in: fields::f64_at(bs, 17),
+        fade_out: fields::f64_at(bs, 25),
+        fade_ease: curve_of(fields::byte(bs, 33)),
+        source: source_of(bs),
+        gain: gain_of(bs),
     }
 }
 
 fn edit_of(bs: &[u8]) -> EditRecord
     ensures { result ≡ edit_of bs.now }
 {
-    let id = EventId(fields::word64(bs, 1));
-    let end_time = fields::f64_at(bs, 9);
-    let fade_out = fields::f64_at(bs, 17);
     EditRecord {
-        id,
-        end_time,
-        fade_out,
+        id: EventId(fields::word64(bs, 1)),
+        end_time: fields::f64_at(bs, 9),
+        fade_out: fields::f64_at(bs, 17),
     }
 }
 
@@ -215,16 +185,12 @@ fn edit_of(bs: &[u8]) -> EditRecord
 fn call_of(bs: &[u8]) -> Call
     ensures { result ≡ call_of bs.now }
 {
-    let kind = plain_kind(fields::byte(bs, 0));
-    match kind {
-        0 => {
-            let m = mode_of(fields::byte(bs, 2));
-            Call::Create {
-                channels: fields::byte(bs, 1),
-                mode: m,
-                first: fields::word64(bs, 3),
-            }
-        }
+    match plain_kind(fields::byte(bs, 0)) {
+        0 => Call::Create {
+            channels: fields::byte(bs, 1),
+            mode: mode_of(fields::byte(bs, 2)),
+            first: fields::word64(bs, 3),
+        },
         1 => Call::Push(push_of(bs)),
         2 => Call::PushRelative(push_of(bs)),
         3 => Call::PushDuration(push_of(bs)),
@@ -242,22 +208,19 @@ fn record_of(cursor: Cursor, bs: &[u8]) -> Read
     requires { cursor.at + length bs.now < 2 ^ 64 }
     ensures { result ≡ record_of cursor bs.now }
 {
-    let at = cursor.at;
-    let first = cursor.first;
     let kind = fields::byte(bs, 0);
-    if is_unknown(first, bs) {
+    if is_unknown(cursor.first, bs) {
         return Read::Refused { kind, number: 14 };
     }
     let n = size_of(kind);
     if bs.len() < n {
         return Read::Refused { kind, number: 15 };
     }
-    let c = call_of(bs);
     Read::Record {
         kind,
-        call: c,
+        call: call_of(bs),
         next: Cursor {
-            at: at + n,
+            at: cursor.at + n,
             first: false,
         },
     }
@@ -268,10 +231,9 @@ impl Cursor {
     pub fn read(self, tape: &[u8]) -> Read
         ensures { result ≡ read_at tape.now self }
     {
-        let at = self.at;
-        if tape.len() <= at {
+        if tape.len() <= self.at {
             return Read::End;
         }
-        record_of(self, &tape[at..])
+        record_of(self, &tape[self.at..])
     }
 }

@@ -1,2 +1,3 @@
 mod Plays
 mod Rolling
+mod Taken

@@ -1,5 +1,5 @@
 -- The loop over a tape's records: what the records before came to and what the rest adds make the whole. Assumes nothing.
-use Rattle.std.proofs.Common.{◌≡◌, ℕ, zero, suc, ◌+◌, ◌-◌, ◌*◌, ◌<◌, Bool, true, false, cond, eqb, List, length, sym, refl, ap, ◌∙◌, subst, true≢false, arith, eq-eqb, ne_eqb}
+use Rattle.std.proofs.Common.{◌≡◌, ℕ, zero, suc, ◌+◌, ◌-◌, ◌*◌, ◌<◌, Bool, true, false, cond, eqb, List, length, sym, refl, ap, ◌∙◌, subst, true≢false, arith, ne_eqb}
 use lib.Ieee.{Float}
 use Rattle.event.specs.declared.ReplayMode.TheVariants.{All}
 use Rattle.ledger.specs.Ledger.{Ledger, fresh}

@@ -1,5 +1,5 @@
 -- What a tape comes to, by its records on the plain ledger. No engine stands here. Assumes nothing.
-use Rattle.std.specs.Prelude.{ℕ, zero, suc, ◌+◌, ◌-◌, ◌^◌, min, Bool, true, cond, ◌&&◌, ◌||◌, List, length, ◌==◌, Float}
+use Rattle.std.specs.Prelude.{ℕ, zero, suc, ◌+◌, ◌-◌, ◌^◌, min, Bool, true, cond, ◌&&◌, List, length, ◌==◌, Float}
 use Rattle.std.specs.Float.Ieee.{eq}
 use Rattle.event.specs.declared.ReplayMode.TheVariants.{All}
 use Rattle.floats.specs.Arithmetic.{◌≈ᶠ◌, whole}

@@ -1,6 +1,6 @@
 -- The clock's part of a record: its time, rate and channels alone say which ticks and blocks are accepted, and how long the samples are. It is what the code keeps. Assumes nothing.
 use Rattle.std.specs.Prelude.{ℕ, ◌*◌, Bool, true, false, cond, ◌&&◌, ◌==◌, nat_le, Float}
-use Rattle.std.specs.Float.Ieee.{div, eq}
+use Rattle.std.specs.Float.Ieee.{div}
 use Rattle.floats.specs.Arithmetic.{◌+ᵈ◌, ◌×ᵈ◌, ◌÷ᵈ◌, ◌≈ᶠ◌, zeroᶠ, oneᶠ, whole}
 use Rattle.refusals.specs.Refusals.{tick_refusal, process_refusal, rate_refusal}
 use Rattle.tape.specs.declared.reader.Call.{Call}

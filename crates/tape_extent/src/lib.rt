@@ -1,16 +1,18 @@
 // What a tape comes to, read from its clock alone: no push or edit moves the clock, and only the clock, the rate and the channels say which ticks and blocks are accepted.
 #![tactic(auto)]
 
-ghost use Rattle.std.specs.Prelude.{◌≡◌, ◌+◌, ◌*◌, List, Float};
-ghost use Rattle.tape_extent.specs.Extents.{capped, rate_with, one_rate_with, longer, counts64, ended_by, end_of, extent_of};
+ghost use Rattle.std.specs.Prelude.{◌≡◌, ◌*◌, List, Float};
+ghost use Rattle.refusals.specs.Numbers.{refusal_number};
+ghost use Rattle.tape_extent.specs.Extents.{rate_with, one_rate_with, longer, counts64, ended_by, end_of, extent_of};
 ghost use Rattle.tape_extent.specs.Paces.{fresh_pace, at, soundless, rendering, creates, creating, paced};
 ghost use Rattle.tape.specs.declared.reader.Call.TheVariants.{Tick, Process, SetSampleRate};
 
-use refusals::{process_refusal, rate_refusal, tick_refusal};
+use refusals::{Refusal, process_refusal, rate_refusal, tick_refusal};
 use tape::reader::{Call, Cursor, Read};
 
 // The bytes that `render` writes where there is room for all, and the samples of each channel among them, both 2 ^ 64 - 1 where there are more; the channels;
 // the rate of the last samples (44,100 where there are none) and whether all are at one rate; and what ended the tape: refusal 1, 14 or 15, or 0 at its end.
+// (`ended` is a number: the C interface hands it on.)
 #[derive(Clone, Copy)]
 pub struct Extent {
     pub bytes: u64,
@@ -54,12 +56,7 @@ fn fresh_pace(channels: u8) -> Pace
 fn pace_at(p: Pace, time: f64) -> Pace
     ensures { result ≡ at p time }
 {
-    Pace {
-        time,
-        rate: p.rate,
-        duration: p.duration,
-        channels: p.channels,
-    }
+    Pace { time, ..p }
 }
 
 fn without_samples(pace: Pace) -> Paced
@@ -72,10 +69,10 @@ fn without_samples(pace: Pace) -> Paced
     }
 }
 
-fn rendered(p: Pace, n: u8, no: u64, end: f64) -> Paced
-    ensures { result ≡ rendering p n no end }
+fn rendered(p: Pace, n: u8, refusal: Option<Refusal>, end: f64) -> Paced
+    ensures { result ≡ rendering p n (refusal_number refusal) end }
 {
-    if no != 0 {
+    if refusal.is_some() {
         return without_samples(p);
     }
     Paced {
@@ -89,13 +86,7 @@ fn rendered(p: Pace, n: u8, no: u64, end: f64) -> Paced
 fn accepts_creation(channels: u8, first: u64) -> bool
     ensures { result ≡ creates channels first }
 {
-    if channels < 1 {
-        return false;
-    }
-    if 8 < channels {
-        return false;
-    }
-    1 <= first
+    matches!(channels, 1..=8) && 1 <= first
 }
 
 fn create(channels: u8, first: u64) -> Paced
@@ -115,33 +106,29 @@ fn tick(p: Pace) -> Paced
     ensures { result ≡ paced p Tick }
 {
     let channels = p.channels as usize;
-    let no = tick_refusal(channels, channels, p.time, p.duration);
-    rendered(p, 1, no, p.time + p.duration)
+    let refusal = tick_refusal(channels, channels, p.time, p.duration);
+    rendered(p, 1, refusal, p.time + p.duration)
 }
 
 fn block(p: Pace, size: u8) -> Paced
     ensures { result ≡ paced p (Process size) }
 {
     let channels = p.channels as usize;
-    let no = process_refusal(size as usize, 64 * channels, channels, p.time, p.duration);
+    let refusal = process_refusal(size as usize, 64 * channels, channels, p.time, p.duration);
     let end = p.time + p.duration * std::num::nearest_u64_to_f64(size as u64);
-    rendered(p, size, no, end)
+    rendered(p, size, refusal, end)
 }
 
 fn set_rate(p: Pace, rate: f64) -> Paced
     ensures { result ≡ paced p (SetSampleRate rate) }
 {
-    if rate_refusal(rate) != 0 {
-        return without_samples(p);
-    }
-    if p.rate == rate {
+    if rate_refusal(rate).is_some() || p.rate == rate {
         return without_samples(p);
     }
     without_samples(Pace {
-        time: p.time,
         rate,
         duration: 1.0 / rate,
-        channels: p.channels,
+        ..p
     })
 }
 
@@ -151,14 +138,14 @@ fn after(p: Pace, call: Call) -> Paced
     match call {
         Call::Create {
             channels,
-            mode: _,
             first,
+            ..
         } => create(channels, first),
-        Call::Push(_) => without_samples(p),
-        Call::PushRelative(_) => without_samples(p),
-        Call::PushDuration(_) => without_samples(p),
-        Call::Edit(_) => without_samples(p),
-        Call::EditRelative(_) => without_samples(p),
+        Call::Push(_)
+        | Call::PushRelative(_)
+        | Call::PushDuration(_)
+        | Call::Edit(_)
+        | Call::EditRelative(_) => without_samples(p),
         Call::Tick => tick(p),
         Call::Process(size) => block(p, size),
         Call::Reset => without_samples(pace_at(p, 0.0)),
@@ -167,15 +154,6 @@ fn after(p: Pace, call: Call) -> Paced
 }
 
 // ---- the counts
-
-fn sum64(a: u64, b: u64) -> u64
-    ensures { result ≡ capped (a + b) }
-{
-    if u64::MAX - a < b {
-        return u64::MAX;
-    }
-    a + b
-}
 
 fn rate_of(x: Extent, n: u8, rate: f64) -> f64
     ensures { result ≡ rate_with x n rate }
@@ -189,13 +167,7 @@ fn one_rate(x: Extent, n: u8, rate: f64) -> bool
     if n == 0 {
         return x.one_rate;
     }
-    if x.frames == 0 {
-        return true;
-    }
-    if !x.one_rate {
-        return false;
-    }
-    x.rate == rate
+    x.frames == 0 || x.one_rate && x.rate == rate
 }
 
 fn bytes_of(channels: u8, n: u8) -> u64
@@ -209,12 +181,11 @@ fn add(x: Extent, channels: u8, n: u8, rate: f64) -> Extent
     ensures { result ≡ counts64 (longer x (4 * (channels * n)) n rate) }
 {
     Extent {
-        bytes: sum64(x.bytes, bytes_of(channels, n)),
-        frames: sum64(x.frames, n as u64),
-        channels: x.channels,
+        bytes: x.bytes.saturating_add(bytes_of(channels, n)),
+        frames: x.frames.saturating_add(n as u64),
         rate: rate_of(x, n, rate),
         one_rate: one_rate(x, n, rate),
-        ended: x.ended,
+        ..x
     }
 }
 
@@ -222,12 +193,9 @@ fn end(x: Extent, channels: u8, ended: u64) -> Extent
     ensures { result ≡ ended_by x channels ended }
 {
     Extent {
-        bytes: x.bytes,
-        frames: x.frames,
         channels: channels as u64,
-        rate: x.rate,
-        one_rate: x.one_rate,
         ended,
+        ..x
     }
 }
 
@@ -237,12 +205,7 @@ fn end_of(r: Read) -> u64
 {
     match r {
         Read::Refused { kind: _, number } => number as u64,
-        Read::End => 0,
-        Read::Record {
-            kind: _,
-            call: _,
-            next: _,
-        } => 0,
+        Read::Record { .. } | Read::End => 0,
     }
 }
 
@@ -261,15 +224,9 @@ pub fn extent_of(tape: &[u8]) -> Extent
     };
     let mut cursor = Cursor { at: 0, first: true };
     // A tape has no more records than bytes.
-    let mut left = tape.len();
-    while left > 0 {
+    for _ in 0..tape.len() {
         let r = cursor.read(tape);
-        let Read::Record {
-            kind: _,
-            call,
-            next,
-        } = r
-        else {
+        let Read::Record { call, next, .. } = r else {
             return end(x, pace.channels, end_of(r));
         };
         let p = after(pace, call);
@@ -279,7 +236,6 @@ pub fn extent_of(tape: &[u8]) -> Extent
         }
         x = add(x, pace.channels, p.frames, pace.rate);
         cursor = next;
-        left = left - 1;
     }
     end(x, pace.channels, 0)
 }

@@ -2,49 +2,57 @@
 // file gives no contract can say. What is decided of them, and what is left, is said by the definitions of specs/.
 #![tactic(auto)]
 
-ghost use Rattle.std.specs.Prelude.{◌≡◌, ◌&&◌, ◌≤◌, max, length};
+ghost use Rattle.std.specs.Prelude.{◌≡◌, ◌&&◌, ◌≤◌, max, length, IfSome};
 ghost use Rattle.pool_file.specs.Loading.{Loads};
 ghost use Rattle.tape_pages.specs.Arguments.{places_of};
-ghost use Rattle.tape_pages.specs.Opening.{not_opened, Opens};
+ghost use Rattle.tape_pages.specs.Opening.{Opens};
 ghost use Rattle.tape_pages.specs.Records.{Stands};
 
-use pool_file::Loaded;
 use std::os::unix::fs::FileExt;
 use std::rt::{Env, Files};
 use tape::reader::{Cursor, Read};
 
 // ---- arguments
 
-// Which argument names the tape, and which the pool's file; 0 is none.
+// Which argument names the tape, and which the pool's file.
 #[derive(Clone, Copy)]
 struct Places {
     tape: usize,
-    pool: usize,
+    pool: Option<usize>,
 }
 
 // TAPE, TAPE --pool FILE, or --pool FILE TAPE; in anything else no tape is named.
-fn places_of(count: usize, a: &[u8], b: &[u8]) -> Places
+fn places_of(count: usize, a: &[u8], b: &[u8]) -> Option<Places>
     ensures { result ≡ places_of count a.now b.now }
 {
     if count == 2 {
         if pool_file::is_option(a) {
-            return Places { tape: 0, pool: 0 };
+            return None;
         }
-        return Places { tape: 1, pool: 0 };
+        return Some(Places {
+            tape: 1,
+            pool: None,
+        });
     }
     if count != 4 {
-        return Places { tape: 0, pool: 0 };
+        return None;
     }
     if pool_file::is_option(a) {
-        return Places { tape: 3, pool: 2 };
+        return Some(Places {
+            tape: 3,
+            pool: Some(2),
+        });
     }
     if pool_file::is_option(b) {
-        return Places { tape: 1, pool: 3 };
+        return Some(Places {
+            tape: 1,
+            pool: Some(3),
+        });
     }
-    Places { tape: 0, pool: 0 }
+    None
 }
 
-fn named<E: Env>(env: &E) -> Places {
+fn named<E: Env>(env: &E) -> Option<Places> {
     let mut a = [0u8; 4096];
     let n = streams::argument(env, 1, &mut a);
     let mut b = [0u8; 4096];
@@ -61,71 +69,54 @@ fn usage<E: Eprint>(rt: &E, who: &[u8], what: &[u8]) {
     streams::say(rt, &pool_file::option_line());
 }
 
-// The pool of the file that an argument names, or document 01's.
-fn load<R: Files + Env + Eprint>(rt: &R, argument: usize, pool: &mut [f32]) -> Loaded
-    ensures bound { result.count ≤ length pool.old }
+// The pool of the file that an argument names, or document 01's: how many samples it has.
+fn load<R: Files + Env + Eprint>(rt: &R, argument: Option<usize>, pool: &mut [f32]) -> Option<usize>
+    ensures bound { IfSome result (λ n. n ≤ length pool.old) }
     ensures lent { Loads pool.old pool.new result }
 {
-    if argument == 0 {
+    let Some(argument) = argument else {
         return pool_file::put_trail_pool(pool);
-    }
+    };
     let mut path = [0u8; 4096];
     let n = streams::argument(rt, argument, &mut path);
     pool_file::load(rt, &path[..n], pool)
 }
 
-// An open tape, the length of its name, and how many samples the pool has; `good` where it can be played.
+// An open tape, the length of its name, and how many samples the pool has.
 #[derive(Drop)]
 pub struct Opened<F> {
-    pub file: Option<F>,
+    pub file: F,
     pub name: usize,
     pub count: usize,
-    pub good: bool,
 }
 
-fn not_opened<F>() -> Opened<F>
-    ensures { result ≡ not_opened }
-{
-    Opened {
-        file: None,
-        name: 0,
-        count: 0,
-        good: false,
-    }
-}
-
-// Opens the tape that the program's arguments name, with its name in `name` and the pool in `pool`. What is wrong is said on standard error.
+// Opens the tape that the program's arguments name, with its name in `name` and the pool in `pool`, where it can be played. What is wrong is said on standard error.
 pub fn open<R: Files + Env + Eprint>(
     rt: &R,
     who: &[u8],
     what: &[u8],
     name: &mut [u8],
     pool: &mut [f32],
-) -> Opened<R::File>
-    ensures name { result.name ≤ length name.old }
-    ensures count { result.count ≤ length pool.old }
+) -> Option<Opened<R::File>>
+    ensures name { IfSome result (λ o. o.name ≤ length name.old) }
+    ensures count { IfSome result (λ o. o.count ≤ length pool.old) }
     ensures lent { Opens pool.old pool.new result }
 {
-    let places = named(rt);
-    if places.tape == 0 {
+    let Some(places) = named(rt) else {
         usage(rt, who, what);
-        return not_opened();
-    }
+        return None;
+    };
     let n = streams::argument(rt, places.tape, name);
-    let loaded = load(rt, places.pool, pool);
-    if !loaded.good {
-        return not_opened();
-    }
+    let count = load(rt, places.pool, pool)?;
     match streams::open(rt, &name[..n]) {
-        Ok(file) => Opened {
-            file: Some(file),
+        Ok(file) => Some(Opened {
+            file,
             name: n,
-            count: loaded.count,
-            good: true,
-        },
+            count,
+        }),
         Err(error) => {
             streams::fail(rt, &name[..n], &error);
-            not_opened()
+            None
         }
     }
 }
@@ -157,12 +148,12 @@ pub fn record<E: Eprint, F: FileExt>(rt: &E, who: &[u8], file: &F, at: u64, firs
 pub fn both(a: bool, b: bool) -> bool
     ensures { result ≡ (a && b) }
 {
-    if a { b } else { false }
+    a && b
 }
 
 // The larger of the two.
 pub fn larger(a: u32, b: u32) -> u32
     ensures { result ≡ max a b }
 {
-    if a < b { b } else { a }
+    a.max(b)
 }

@@ -2,143 +2,104 @@
 // A record that would not be written with its own bytes (a held source's unused word that is not 0, another NaN), and what is no record, is given as it is: a kind of 256 + n, and then n bytes, up to 112. What goes wrong is said on standard error.
 #![tactic(auto)]
 
-ghost use Rattle.std.specs.Prelude.{◌+◌, ◌≤◌, length};
+ghost use Rattle.std.specs.Prelude.{◌≤◌, length};
 
 use std::io::{IsTerminal, Read};
+use std::{fmt, io};
 use tape::reader;
 use tape::reader::Cursor;
-use tape_writer::{Arguments, Written, calls};
+use tape_input::Unread;
+use tape_writer::{Arguments, calls};
 
-// Whether `bytes` begins with the first n of `a`.
-fn begins(bytes: &[u8], a: &[u8], n: usize) -> bool {
-    let mut i: usize = 0;
-    while i < n {
-        if bytes.len() <= i {
-            return false;
+// What ends the work before the tape does.
+#[derive(Clone, Copy)]
+enum Stop {
+    Unread,
+    Unwritten,
+}
+
+impl fmt::Display for Stop {
+    fn fmt<W: fmt::Write>(&self, f: &mut fmt::Formatter<W>) -> fmt::Result {
+        match self {
+            Stop::Unread => f.write_str("standard input cannot be read"),
+            Stop::Unwritten => f.write_str("standard output cannot be written"),
         }
-        if a.len() <= i {
-            return false;
-        }
-        if a[i] != bytes[i] {
-            return false;
-        }
-        i = i + 1;
     }
-    true
+}
+
+impl From<Unread> for Stop {
+    fn from(_: Unread) -> Stop {
+        Stop::Unread
+    }
+}
+
+impl From<io::Error> for Stop {
+    fn from(_: io::Error) -> Stop {
+        Stop::Unwritten
+    }
 }
 
 // Whether the arguments are written with the bytes that stand here.
 fn is_own(a: Arguments, bytes: &[u8]) -> bool {
     let mut again = [0u8; 64];
-    let w = tape_writer::write(a, &mut again, 0);
-    match w {
-        Written::Next(n) => begins(bytes, &again, n),
-        Written::Refused(_) => false,
+    let Ok(n) = tape_writer::write(a, &mut again, 0) else {
+        return false;
+    };
+    match again.get(..n) {
+        Some(own) => bytes.starts_with(own),
+        None => false,
     }
 }
 
-// Puts up to 112 bytes behind the first 8 of a record, and answers how many.
-fn fill(record: &mut [u8], bytes: &[u8]) -> usize
-    ensures upper_bound { result ≤ 112 }
-    ensures upper_bound_2 { result ≤ length bytes.now }
+// Up to 112 bytes as they are.
+fn put_piece<R: Print>(rt: &R, piece: &[u8]) -> io::Result<()>
+    requires { length piece.now ≤ 112 }
 {
-    let mut n: usize = 0;
-    while n < 112 {
-        if bytes.len() <= n {
-            return n;
-        }
-        if record.len() <= 8 + n {
-            return n;
-        }
-        record[8 + n] = bytes[n];
-        n = n + 1;
-    }
-    n
-}
-
-// The first bytes as they are, up to 112; answers how many, 0 where they cannot be written.
-fn put_piece<R: Print>(rt: &R, bytes: &[u8]) -> usize
-    ensures { result ≤ length bytes.now }
-{
+    let n = piece.len();
     let mut record = [0u8; 120];
-    let n = fill(&mut record, bytes);
+    record[8..8 + n].copy_from_slice(piece);
     record[0] = n as u8;
     record[1] = 1;
-    if rt.write_all(&record).is_ok() { n } else { 0 }
+    rt.write_all(&record)
 }
 
-// All the bytes as they are. False where they cannot be written.
-fn put_bytes<R: Print>(rt: &R, bytes: &[u8]) -> bool {
-    let mut from: usize = 0;
-    while from < bytes.len() {
-        let n = put_piece(rt, &bytes[from..]);
-        if n == 0 {
-            return false;
-        }
-        from = from + n;
+// All the bytes as they are.
+fn put_bytes<R: Print>(rt: &R, bytes: &[u8]) -> io::Result<()> {
+    for piece in bytes.chunks(112) {
+        put_piece(rt, piece)?;
     }
-    true
+    Ok(())
 }
 
-// A record's arguments, or its bytes. False where they cannot be written.
-fn put_record<R: Print>(rt: &R, a: Arguments, bytes: &[u8]) -> bool {
+// A record's arguments, or its bytes.
+fn put<R: Print>(rt: &R, a: Arguments, bytes: &[u8]) -> io::Result<()> {
     if is_own(a, bytes) {
-        let record = argument_records::put(a);
-        return rt.write_all(&record).is_ok();
+        return rt.write_all(&argument_records::put(a));
     }
     put_bytes(rt, bytes)
 }
 
-// The bytes from `from` up to `to`, which are a record.
-fn put<R: Print>(rt: &R, a: Arguments, buf: &[u8], from: usize, to: usize) -> bool {
-    if to < from {
-        return false;
-    }
-    if buf.len() < to {
-        return false;
-    }
-    put_record(rt, a, &buf[from..to])
-}
-
-fn cannot_write<E: Eprint>(rt: &E) {
-    streams::say(rt, b"tape_read: standard output cannot be written\n");
-}
-
-fn cannot_read<E: Eprint>(rt: &E) {
-    streams::say(rt, b"tape_read: standard input cannot be read\n");
-}
-
 // The rest of the tape, from `at` on, as it is.
-fn put_rest<R: Print + Eprint, I: Read>(
+fn put_rest<R: Print, I: Read>(
     rt: &R,
     from: &mut I,
     buf: &mut [u8],
     at: usize,
     have: usize,
-) {
+) -> Result<(), Stop> {
     let mut n = tape_input::shift(buf, at, have);
     for _ in 0..u64::MAX {
-        if buf.len() < n {
-            return;
-        }
-        if !put_bytes(rt, &buf[..n]) {
-            cannot_write(rt);
-            return;
-        }
-        let came = tape_input::read_on(from, buf, 0);
-        if came.failed {
-            cannot_read(rt);
-            return;
-        }
-        n = came.count;
+        put_bytes(rt, &buf[..n])?;
+        n = tape_input::read_on(from, buf, 0)?;
         if n == 0 {
-            return;
+            break;
         }
     }
+    Ok(())
 }
 
 // Reads the tape that standard input has.
-fn read_tape<R: Input + Print + Eprint>(rt: &R) {
+fn read_tape<R: Input + Print>(rt: &R) -> Result<(), Stop> {
     let mut from = rt.reader();
     let mut buf = [0u8; 65536];
     let mut first = true;
@@ -150,27 +111,23 @@ fn read_tape<R: Input + Print + Eprint>(rt: &R) {
             let c = Cursor { at, first };
             let r = c.read(&buf[..have]);
             let reader::Read::Record { kind, call, next } = r else {
-                put_rest(rt, &mut from, &mut buf, at, have);
-                return;
+                return put_rest(rt, &mut from, &mut buf, at, have);
             };
-            if !put(rt, calls::arguments_of(kind, call), &buf, at, next.at) {
-                cannot_write(rt);
-                return;
-            }
+            let Some(bytes) = buf.get(at..next.at) else {
+                return Err(Stop::Unwritten);
+            };
+            put(rt, calls::arguments_of(kind, call), bytes)?;
             first = next.first;
             at = next.at;
         } else {
             have = tape_input::shift(&mut buf, at, have);
             at = 0;
-            let came = tape_input::read_on(&mut from, &mut buf, have);
-            if came.failed {
-                cannot_read(rt);
-                return;
-            }
-            whole = came.count == 0;
-            have = have + came.count;
+            let count = tape_input::read_on(&mut from, &mut buf, have)?;
+            whole = count == 0;
+            have += count;
         }
     }
+    Ok(())
 }
 
 // There are no arguments, and on a terminal nothing could be read: there the usage is all.
@@ -182,5 +139,7 @@ fn main(rt: HostRuntime) {
         );
         return;
     }
-    read_tape(&rt);
+    if let Err(stop) = read_tape(&rt) {
+        let _ = eprint!(rt; "tape_read: {stop}\n");
+    }
 }

@@ -1,39 +1,33 @@
 // A tape as one SVG page: a lane for each clip, marks for edits and refused calls, the wave of each channel, and the sum. Each function puts an element, piece by piece, into a lent buffer (crate tape_words); where it stands is crate chart.
 #![tactic(auto)]
 
-ghost use Rattle.std.specs.Prelude.{◌≡◌, ◌-◌, ◌≤◌};
+ghost use Rattle.std.specs.Prelude.{◌≡◌, ◌≤◌};
 ghost use Rattle.listing.specs.Pieces.{text, add, add_all};
 ghost use Rattle.tape_words.specs.Words.{by_place};
 ghost use Rattle.tape_sheet.specs.Elements.{name_text, attribute, open_text, open_path, bounds, open_box, standing, clock_text, axis_time, axis_mark, segment, lane, open_mark, refused, edit_title, edited, edited_lane, called, bar, wave, swatch, page, measures, foot, stop_text};
 
 use listing::pieces::{put_bytes, put_decimal};
 use sequencer::{Answer, Counts};
+use standing::Standing;
 use tape_words::{
-    put_answer, put_by_place, put_call, put_call_at, put_either, put_numbered, put_peak,
-    put_refusal, put_sum, put_time, put_timed,
+    is_sounding, put_answer, put_by_place, put_call, put_call_at, put_either, put_numbered,
+    put_peak, put_refusal, put_sum, put_time, put_timed,
 };
 
-// a - b, and 0 below.
-fn less(a: u64, b: u64) -> u64
-    ensures { result ≡ a - b }
-{
-    if a < b { 0 } else { a - b }
-}
-
-// One of four numbers, by where a clip stands: 0 waiting, 1 sounding, 2 finished, 3 let go.
-fn by_place(place: u64, waiting: u64, sounding: u64, finished: u64, let_go: u64) -> u64
+// One of four numbers, by where a clip stands.
+fn by_place(place: Standing, waiting: u64, sounding: u64, finished: u64, let_go: u64) -> u64
     ensures { result ≡ by_place place waiting sounding finished let_go }
 {
     match place {
-        0 => waiting,
-        1 => sounding,
-        2 => finished,
-        _ => let_go,
+        Standing::Waiting => waiting,
+        Standing::Sounding => sounding,
+        Standing::Finished => finished,
+        Standing::LetGo => let_go,
     }
 }
 
 // A standing in words.
-fn put_name(place: u64, out: &mut [u8], at: usize) -> usize
+fn put_name(place: Standing, out: &mut [u8], at: usize) -> usize
     ensures { text out.new result ≡ add (name_text place) (text out.old at) }
 {
     put_by_place(
@@ -109,7 +103,7 @@ fn put_open_box(
 }
 
 // A standing's box below `top`, up to its last attribute: each standing has a class in the style, and a height of its own, so that it is told in grey too.
-fn put_standing(place: u64, x: u64, top: u64, width: u64, out: &mut [u8], at: usize) -> usize
+fn put_standing(place: Standing, x: u64, top: u64, width: u64, out: &mut [u8], at: usize) -> usize
     requires { top ≤ 35_184_372_088_832 }
     ensures { text out.new result ≡ add_all (standing place x top width) (text out.old at) }
 {
@@ -157,7 +151,7 @@ pub fn put_axis_mark(
     ensures { text out.new result ≡ add_all (axis_mark time total step top height) (text out.old at) }
 {
     let x = chart::x(time, total);
-    let above = less(top, 3);
+    let above = top.saturating_sub(3);
     let to = put_open_path(b"a", x, top, out, at);
     let to = put_numbered(b"v", height, out, to);
     let to = put_bytes(b"\"/>", out, to);
@@ -171,7 +165,7 @@ pub fn put_segment(
     total: u64,
     first: u64,
     clip: u64,
-    place: u64,
+    place: Standing,
     from: u64,
     until: u64,
     out: &mut [u8],
@@ -182,7 +176,7 @@ pub fn put_segment(
     if from == until {
         return at;
     }
-    let i = less(clip, first);
+    let i = clip.saturating_sub(first);
     let x = chart::x(from, total);
     let y = chart::lane(i);
     let width = chart::breadth(from, until, total);
@@ -200,16 +194,16 @@ pub fn put_lane(
     total: u64,
     first: u64,
     clip: u64,
-    place: u64,
+    place: Standing,
     time: u64,
     out: &mut [u8],
     at: usize,
 ) -> usize
     ensures { text out.new result ≡ add_all (lane total first clip place time) (text out.old at) }
 {
-    let i = less(clip, first);
+    let i = clip.saturating_sub(first);
     let y = chart::lane(i);
-    let left = less(chart::x(time, total), 6);
+    let left = chart::x(time, total).saturating_sub(6);
     let to = put_open_path(b"l", 170, y + 10, out, at);
     let to = put_bytes(b"h1400\"/>", out, to);
     let to = put_open_text(b"n", 162, y + 14, out, to);
@@ -218,7 +212,13 @@ pub fn put_lane(
     let to = put_open_path(b"p", left, y + 5, out, to);
     let to = put_numbered(b"l6 5l-6 5z\"><title>clip ", clip, out, to);
     let to = put_timed(b" laid at ", time, out, to);
-    let to = put_either(place == 1, b", straight to sounding", b", waits", out, to);
+    let to = put_either(
+        is_sounding(place),
+        b", straight to sounding",
+        b", waits",
+        out,
+        to,
+    );
     put_bytes(b"</title></path>\n", out, to)
 }
 
@@ -296,7 +296,7 @@ pub fn put_edited_lane(
 ) -> usize
     ensures { text out.new result ≡ add_all (edited_lane total first kind clip told time) (text out.old at) }
 {
-    let i = less(clip, first);
+    let i = clip.saturating_sub(first);
     let x = chart::x(time, total);
     let y = chart::lane(i);
     let to = put_open_path(b"d", x, y + 5, out, at);
@@ -318,7 +318,7 @@ pub fn put_called(
     ensures { text out.new result ≡ add_all (called total row lanes kind time) (text out.old at) }
 {
     let x = chart::x(time, total);
-    let height = less(chart::lanes_end(lanes), 176);
+    let height = chart::lanes_end(lanes).saturating_sub(176);
     let to = put_open_mark(b"c", total, time, row, out, at);
     let to = put_call(kind, 0, out, to);
     let to = put_bytes(b"</text><title>", out, to);
@@ -337,7 +337,7 @@ pub fn put_bar(bits: u32, column: u32, middle: u64, out: &mut [u8], at: usize) -
         return at;
     }
     let h = chart::height(bits, 40);
-    let top = less(middle, h);
+    let top = middle.saturating_sub(h);
     let to = put_numbered(b"M", 170 + column as u64, out, at);
     let to = put_numbered(b" ", top, out, to);
     put_numbered(b"v", h + h + 1, out, to)
@@ -365,7 +365,7 @@ pub fn put_wave(lanes: u64, channel: u32, most: u32, out: &mut [u8], at: usize) 
 }
 
 // A standing of the key.
-pub fn put_swatch(place: u64, x: u32, out: &mut [u8], at: usize) -> usize
+pub fn put_swatch(place: Standing, x: u32, out: &mut [u8], at: usize) -> usize
     ensures { text out.new result ≡ add_all (swatch place x) (text out.old at) }
 {
     let to = put_standing(place, x as u64, 40, 40, out, at);
@@ -420,16 +420,18 @@ pub fn put_foot(
     put_bytes(b"</text>\n", out, to)
 }
 
-// What stops the tape, below the sum; 0 is nothing.
-pub fn put_stop(lanes: u64, channels: u64, stop: u64, out: &mut [u8], at: usize) -> usize
+// What stops the tape, below the sum.
+pub fn put_stop(lanes: u64, channels: u64, stop: Option<u64>, out: &mut [u8], at: usize) -> usize
     ensures { text out.new result ≡ add_all (stop_text lanes channels stop) (text out.old at) }
 {
-    if stop == 0 {
-        return at;
+    match stop {
+        Some(refusal) => {
+            let y = chart::wave(lanes, channels);
+            let to = put_open_text(b"z", 170, y + 42, out, at);
+            let to = put_bytes(b"the tape stops: ", out, to);
+            let to = put_refusal(refusal, out, to);
+            put_bytes(b"</text>\n", out, to)
+        }
+        None => at,
     }
-    let y = chart::wave(lanes, channels);
-    let to = put_open_text(b"z", 170, y + 42, out, at);
-    let to = put_bytes(b"the tape stops: ", out, to);
-    let to = put_refusal(stop, out, to);
-    put_bytes(b"</text>\n", out, to)
 }

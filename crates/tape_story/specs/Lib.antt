@@ -1,1 +1,2 @@
+pub mod Asides
 pub mod Lines

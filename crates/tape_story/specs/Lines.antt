@@ -1,5 +1,5 @@
 -- The lines of a tape's story, as pieces. They run.
-use Rattle.std.specs.Prelude.{ℕ, Bool, cond, not, List, [], ◌∷◌, ◌++◌, eqb, Float}
+use Rattle.std.specs.Prelude.{ℕ, cond, Option, List, [], ◌∷◌, ◌++◌, eqb, Float}
 use Rattle.event.specs.declared.ReplayMode.{ReplayMode}
 use Rattle.event.specs.declared.ReplayMode.TheVariants.{All, None}
 use Rattle.sequencer.specs.declared.Sequencer.{Sequencer}
@@ -9,20 +9,24 @@ use Rattle.listing.specs.Ascii.{ascii}
 use Rattle.listing.specs.Text.{decimal}
 use Rattle.chart.specs.Scale.{thousandths_of}
 use Rattle.tape.specs.Tape.{push_kind}
-use Rattle.tape_words.specs.Words.{by_place, thousandths_text, time_text, peak_text, refusal_text, sum_text, call_text, answer_text}
+use Rattle.standing.specs.declared.Standing.{Standing}
+use Rattle.standing.specs.declared.Standing.TheVariants.{Waiting, Sounding, Finished, LetGo}
+use Rattle.tape_words.specs.Words.{same_place, is_sounding, by_place, thousandths_text, time_text, peak_text, refusal_text, sum_text, call_text, answer_text}
+use Rattle.tape_story.specs.declared.Samples.{Samples}
+use Rattle.tape_story.specs.Asides.{refused_text, samples_text}
 
 -- what became of a clip that moved, by where it stands now
-unfoldable pub becomes_text : (place : ℕ) → List ℕ
+unfoldable pub becomes_text : (place : Standing) → List ℕ
 becomes_text place = by_place place (ascii " waits again") (ascii " starts") (ascii " finishes") (ascii " is let go")
 
 -- a clip that stands elsewhere than it did; one that stands where it did is not told
-unfoldable pub move_text : (clip was place : ℕ) → List (List ℕ)
+unfoldable pub move_text : (clip : ℕ) → (was place : Standing) → List (List ℕ)
 unfolding becomes_text
-move_text clip was place = cond (eqb place was) [] (ascii "; clip " ∷ decimal clip ∷ becomes_text place ∷ [])
+move_text clip was place = cond (same_place place was) [] (ascii "; clip " ∷ decimal clip ∷ becomes_text place ∷ [])
 
 -- where a push lays its clip
-unfoldable pub laid_text : (clip place : ℕ) → List (List ℕ)
-laid_text clip place = ascii ": clip " ∷ decimal clip ∷ cond (eqb place 1) (ascii " goes straight to sounding") (ascii " waits") ∷ []
+unfoldable pub laid_text : (clip : ℕ) → (place : Standing) → List (List ℕ)
+laid_text clip place = ascii ": clip " ∷ decimal clip ∷ cond (is_sounding place) (ascii " goes straight to sounding") (ascii " waits") ∷ []
 
 -- the replay mode
 unfoldable pub mode_text : ReplayMode → List ℕ
@@ -45,7 +49,7 @@ unfolding thousandths_text
 rate_text rate = ascii " " ∷ thousandths_text (thousandths_of rate)
 
 -- what an accepted call says, by its record's kind, beside the clips that moved; s is the engine behind it
-unfoldable pub outcome_text : Sequencer → (kind : ℕ) → Answer → (clip place : ℕ) → List (List ℕ)
+unfoldable pub outcome_text : Sequencer → (kind : ℕ) → Answer → (clip : ℕ) → (place : Standing) → List (List ℕ)
 unfolding laid_text created_text edited_text rate_text
 outcome_text s kind told clip place =
     cond (push_kind kind) (laid_text clip place)
@@ -60,25 +64,15 @@ unfolding time_text peak_text
 quiet_text calls since peak =
     cond (eqb calls 0) [] (time_text since ++ (ascii ": " ∷ decimal calls ∷ ascii " ticks or blocks in which no clip moves, peak " ∷ (peak_text peak ++ (ascii "\n" ∷ []))))
 
--- a refusal behind its call; 0 is none
-unfoldable pub refused_text : (refusal : ℕ) → List (List ℕ)
-unfolding refusal_text
-refused_text refusal = cond (eqb refusal 0) [] (ascii ": " ∷ refusal_text refusal)
-
 -- the beginning of a record's line: the clock, the call, and its refusal
-unfoldable pub begin_text : (clock kind clip refusal : ℕ) → List (List ℕ)
+unfoldable pub begin_text : (clock kind clip : ℕ) → (refusal : Option ℕ) → List (List ℕ)
 unfolding time_text call_text refused_text
 begin_text clock kind clip refusal = time_text clock ++ (ascii ": " ∷ (call_text kind clip ++ refused_text refusal))
 
--- how many samples of each channel were heard, and the first channel's peak
-unfoldable pub samples_text : (each peak : ℕ) → (heard : Bool) → List (List ℕ)
-unfolding peak_text
-samples_text each peak heard = cond (not heard) [] (ascii "; " ∷ decimal each ∷ ascii " samples, peak " ∷ peak_text peak)
-
 -- the end of a record's line
-unfoldable pub heard_text : (each peak : ℕ) → (heard : Bool) → List (List ℕ)
+unfoldable pub heard_text : (heard : Option Samples) → List (List ℕ)
 unfolding samples_text
-heard_text each peak heard = samples_text each peak heard ++ (ascii "\n" ∷ [])
+heard_text heard = samples_text heard ++ (ascii "\n" ∷ [])
 
 -- the line of a record that stops the tape
 unfoldable pub stop_text : (clock kind refusal : ℕ) → List (List ℕ)

@@ -3,18 +3,20 @@
 
 ghost use Rattle.std.specs.Prelude.{◌≡◌};
 ghost use Rattle.listing.specs.Pieces.{text, add, add_all};
-ghost use Rattle.tape_story.specs.Lines.{move_text, laid_text, mode_text, created_text, edited_text, rate_text, outcome_text, quiet_text, refused_text, begin_text, samples_text, heard_text, stop_text, end_text};
+ghost use Rattle.tape_story.specs.Asides.{refused_text, samples_text};
+ghost use Rattle.tape_story.specs.Lines.{move_text, laid_text, mode_text, created_text, edited_text, rate_text, outcome_text, quiet_text, begin_text, heard_text, stop_text, end_text};
 
 use event::ReplayMode;
 use listing::pieces::put_bytes;
 use sequencer::{Answer, Counts, Sequencer};
+use standing::Standing;
 use tape_words::{
-    put_answer, put_by_place, put_call, put_either, put_numbered, put_peak, put_refusal, put_sum,
-    put_thousandths, put_time,
+    is_sounding, put_answer, put_by_place, put_call, put_either, put_numbered, put_peak,
+    put_refusal, put_sum, put_thousandths, put_time,
 };
 
 // What became of a clip that stands elsewhere than it did; one that stands where it did is not told.
-pub fn put_move(clip: u64, was: u64, place: u64, out: &mut [u8], at: usize) -> usize
+pub fn put_move(clip: u64, was: Standing, place: Standing, out: &mut [u8], at: usize) -> usize
     ensures { text out.new result ≡ add_all (move_text clip was place) (text out.old at) }
 {
     if place == was {
@@ -33,12 +35,12 @@ pub fn put_move(clip: u64, was: u64, place: u64, out: &mut [u8], at: usize) -> u
 }
 
 // Where a push lays its clip.
-fn put_laid(clip: u64, place: u64, out: &mut [u8], at: usize) -> usize
+fn put_laid(clip: u64, place: Standing, out: &mut [u8], at: usize) -> usize
     ensures { text out.new result ≡ add_all (laid_text clip place) (text out.old at) }
 {
     let to = put_numbered(b": clip ", clip, out, at);
     put_either(
-        place == 1,
+        is_sounding(place),
         b" goes straight to sounding",
         b" waits",
         out,
@@ -77,9 +79,8 @@ fn put_edited(told: Answer, out: &mut [u8], at: usize) -> usize
 fn put_rate(rate: f64, out: &mut [u8], at: usize) -> usize
     ensures { text out.new result ≡ add_all (rate_text rate) (text out.old at) }
 {
-    let n = chart::thousandths(rate);
     let to = put_bytes(b" ", out, at);
-    put_thousandths(n, out, to)
+    put_thousandths(chart::thousandths(rate), out, to)
 }
 
 // What an accepted call says, beside the clips that moved: `s` is the engine behind it.
@@ -88,7 +89,7 @@ pub fn put_outcome(
     kind: u8,
     told: Answer,
     clip: u64,
-    place: u64,
+    place: Standing,
     out: &mut [u8],
     at: usize,
 ) -> usize
@@ -97,9 +98,9 @@ pub fn put_outcome(
     if tape::reader::is_push(kind) {
         return put_laid(clip, place, out, at);
     }
-    let mode = s.mode;
     match kind {
-        0 => put_created(s.outputs as u64, mode, s.next, out, at),
+        0 => put_created(s.outputs as u64, s.mode, s.next, out, at),
+        // 4 and 5 apart: `4 | 5` becomes two bounds, and the proof of the range did not close
         4 => put_edited(told, out, at),
         5 => put_edited(told, out, at),
         9 => put_rate(s.sample_rate, out, at),
@@ -107,6 +108,7 @@ pub fn put_outcome(
     }
 }
 
+// No Option: the text of 0 calls is promised too.
 // Ticks and blocks in which no clip moved: how many, since when, and the peak of all.
 pub fn put_quiet(calls: u64, since: u64, peak: u32, out: &mut [u8], at: usize) -> usize
     ensures { text out.new result ≡ add_all (quiet_text calls since peak) (text out.old at) }
@@ -121,19 +123,28 @@ pub fn put_quiet(calls: u64, since: u64, peak: u32, out: &mut [u8], at: usize) -
     put_bytes(b"\n", out, to)
 }
 
-// A refusal behind its call; 0 is none.
-fn put_refused(refusal: u64, out: &mut [u8], at: usize) -> usize
+// A refusal behind its call.
+fn put_refused(refusal: Option<u64>, out: &mut [u8], at: usize) -> usize
     ensures { text out.new result ≡ add_all (refused_text refusal) (text out.old at) }
 {
-    if refusal == 0 {
-        return at;
+    match refusal {
+        Some(number) => {
+            let to = put_bytes(b": ", out, at);
+            put_refusal(number, out, to)
+        }
+        None => at,
     }
-    let to = put_bytes(b": ", out, at);
-    put_refusal(refusal, out, to)
 }
 
 // The beginning of a record's line.
-pub fn put_begin(clock: u64, kind: u8, clip: u64, refusal: u64, out: &mut [u8], at: usize) -> usize
+pub fn put_begin(
+    clock: u64,
+    kind: u8,
+    clip: u64,
+    refusal: Option<u64>,
+    out: &mut [u8],
+    at: usize,
+) -> usize
     ensures { text out.new result ≡ add_all (begin_text clock kind clip refusal) (text out.old at) }
 {
     let to = put_time(clock, out, at);
@@ -143,22 +154,30 @@ pub fn put_begin(clock: u64, kind: u8, clip: u64, refusal: u64, out: &mut [u8], 
 }
 
 // How many samples of each channel were heard, and the first channel's peak.
-fn put_samples(each: u64, peak: u32, heard: bool, out: &mut [u8], at: usize) -> usize
-    ensures { text out.new result ≡ add_all (samples_text each peak heard) (text out.old at) }
+#[derive(Clone, Copy)]
+pub struct Samples {
+    pub each: u64,
+    pub peak: u32,
+}
+
+fn put_samples(heard: Option<Samples>, out: &mut [u8], at: usize) -> usize
+    ensures { text out.new result ≡ add_all (samples_text heard) (text out.old at) }
 {
-    if !heard {
-        return at;
+    match heard {
+        Some(samples) => {
+            let to = put_numbered(b"; ", samples.each, out, at);
+            let to = put_bytes(b" samples, peak ", out, to);
+            put_peak(samples.peak, out, to)
+        }
+        None => at,
     }
-    let to = put_numbered(b"; ", each, out, at);
-    let to = put_bytes(b" samples, peak ", out, to);
-    put_peak(peak, out, to)
 }
 
 // The end of a record's line: how much was heard.
-pub fn put_heard(each: u64, peak: u32, heard: bool, out: &mut [u8], at: usize) -> usize
-    ensures { text out.new result ≡ add_all (heard_text each peak heard) (text out.old at) }
+pub fn put_heard(heard: Option<Samples>, out: &mut [u8], at: usize) -> usize
+    ensures { text out.new result ≡ add_all (heard_text heard) (text out.old at) }
 {
-    let to = put_samples(each, peak, heard, out, at);
+    let to = put_samples(heard, out, at);
     put_bytes(b"\n", out, to)
 }
 

@@ -1,151 +1,133 @@
-// What the pages about a tape follow: where each clip stands that is held, in rows of numbers, and what a record says of one.
+// What the pages about a tape follow: where each clip stands that is held, and what a record says of one.
 #![tactic(auto)]
 
-ghost use Rattle.std.specs.Prelude.{◌≡◌, cond, length, set as set_at, replicate, slice_index};
-ghost use Rattle.tape_tracks.specs.Tracks.{stands_at, entered_at, same_counts, next_place, one_more, edited_number, edit_answer_of};
+ghost use Rattle.std.specs.Prelude.{◌≡◌, take};
+ghost use Rattle.standing.specs.Theorem.{is_let_go};
+ghost use Rattle.tape_tracks.specs.Tracks.{no_tracks, held_with, laid_at, same_counts, one_more, refusal_of, edited_number, edit_answer_of};
 
 use sequencer::{Answer, Counts, Sequencer};
 use standing::Standing;
 use tape::reader::Call;
 
-// A row for the clips that are held.
-pub fn row() -> [u64; 256]
-    ensures length { length result ≡ 256 }
-    ensures zeros { result ≡ replicate 256 0 }
-{
-    [0; 256]
+// A clip that is held: its number, where it stood when it was last looked at, and since when.
+#[derive(Clone, Copy)]
+pub struct Track {
+    pub clip: u64,
+    pub place: Standing,
+    pub since: u64,
 }
 
-// The number at place i of a row, 0 past its end.
-pub fn at(row: &[u64], i: usize) -> u64
-    ensures { result ≡ slice_index row.now i }
-{
-    if i < row.len() { row[i] } else { 0 }
+// The clips that are held: the first `count` of the array (document 01 lets nothing grow: an array with a count).
+#[derive(Clone, Copy)]
+pub struct Tracks {
+    held: [Track; 256],
+    count: usize,
 }
 
-// Puts x at place i of a row; past its end nothing changes.
-pub fn set(row: &mut [u64], i: usize, x: u64)
-    ensures { row.new ≡ set_at row.old i x }
+fn is_let_go(place: Standing) -> bool
+    ensures { result ≡ is_let_go place }
 {
-    if i < row.len() {
-        row[i] = x;
+    matches!(place, Standing::LetGo)
+}
+
+impl Tracks {
+    #[tactic(auto, unfolding(crate::specs::Tracks::no_tracks))]
+    pub fn none() -> Tracks
+        ensures { result ≡ no_tracks }
+    {
+        Tracks {
+            held: [Track {
+                clip: 0,
+                place: Standing::Waiting,
+                since: 0,
+            }; 256],
+            count: 0,
+        }
+    }
+
+    // The clips in the order in which they were laid.
+    pub fn held(&self) -> &[Track]
+        ensures { result.now ≡ take self.now.count self.now.held }
+    {
+        &self.held[..self.count.min(256)]
+    }
+
+    // One more clip, behind the others. What was let go is held no longer, and no more than 256 are.
+    #[tactic(auto, unfolding(crate::specs::Tracks::held_with))]
+    pub fn hold(&mut self, track: Track)
+        ensures { self.new ≡ held_with self.old track }
+    {
+        if is_let_go(track.place) {
+            return;
+        }
+        if self.count < 256 {
+            self.held[self.count] = track;
+            self.count += 1;
+        }
     }
 }
 
-pub const WAITING: u64 = 0;
-
-pub const SOUNDING: u64 = 1;
-
-pub const FINISHED: u64 = 2;
-
-pub const LET_GO: u64 = 3;
-
-// Where a clip stands, as a number.
-pub fn stands(s: Sequencer, clip: u64) -> u64
-    ensures { result ≡ stands_at s clip }
-{
-    let where_ = standing::standing_of(s, clip);
-    match where_ {
-        Standing::Waiting => WAITING,
-        Standing::Sounding => SOUNDING,
-        Standing::Finished => FINISHED,
-        Standing::LetGo => LET_GO,
-    }
-}
-
-// Where a clip that was laid stands; another counts as waiting.
-pub fn place_if(laid: bool, s: Sequencer, clip: u64) -> u64
-    ensures { result ≡ entered_at laid s clip }
+// Where a clip that was laid stands.
+#[tactic(auto, unfolding(crate::specs::Tracks::laid_at))]
+pub fn laid_at(laid: bool, s: Sequencer, clip: u64) -> Option<Standing>
+    ensures { result ≡ laid_at laid s clip }
 {
     if laid {
-        return stands(s, clip);
+        Some(standing::standing_of(s, clip))
+    } else {
+        None
     }
-    WAITING
 }
 
-// Whether all four counts are as they were.
+// Whether all four counts are as they were; by the fields, which an edit of must-fail/ changes one of.
 #[tactic(auto, unfolding(crate::specs::Tracks::same_counts))]
 pub fn is_same(a: Counts, b: Counts) -> bool
     ensures { result ≡ same_counts a b }
 {
-    if a.waiting != b.waiting {
-        return false;
-    }
-    if a.sounding != b.sounding {
-        return false;
-    }
-    if a.finished != b.finished {
-        return false;
-    }
-    a.let_go == b.let_go
-}
-
-// The place of the next clip, behind one that stands so: what was let go leaves its place. No more than 256 are held.
-pub fn next_place(count: usize, place: u64) -> usize
-    ensures { result ≡ next_place count place }
-{
-    if place == LET_GO {
-        return count;
-    }
-    if count < 256 { count + 1 } else { count }
+    a.waiting == b.waiting
+        && a.sounding == b.sounding
+        && a.finished == b.finished
+        && a.let_go == b.let_go
 }
 
 // The accepted pushes, with one more where a clip was laid.
+#[tactic(auto, unfolding(crate::specs::Tracks::one_more))]
 pub fn one_more_if(laid: bool, pushes: u64) -> u64
     ensures { result ≡ one_more laid pushes }
 {
     if laid {
-        return std::num::wrapping_add_u64(pushes, 1);
+        return pushes.wrapping_add(1);
     }
     pushes
 }
 
-// The number that an edit names; 0 for any other call.
-pub fn edited(call: Call) -> u64
+// The refusal of a call, by the number that the engine's answer has; 0 is none.
+#[tactic(auto, unfolding(crate::specs::Tracks::refusal_of))]
+pub fn refusal_of(number: u64) -> Option<u64>
+    ensures { result ≡ refusal_of number }
+{
+    if number == 0 { None } else { Some(number) }
+}
+
+// The number that an edit names.
+#[tactic(auto, unfolding(crate::specs::Tracks::edited_number))]
+pub fn edited(call: Call) -> Option<u64>
     ensures { result ≡ edited_number call }
 {
     match call {
-        Call::Edit(p) => {
-            let id = p.id;
-            id.0
-        }
-        Call::EditRelative(p) => {
-            let id = p.id;
-            id.0
-        }
-        Call::Create {
-            channels: _,
-            mode: _,
-            first: _,
-        } => 0,
-        Call::Push(_) => 0,
-        Call::PushRelative(_) => 0,
-        Call::PushDuration(_) => 0,
-        Call::Tick => 0,
-        Call::Process(_) => 0,
-        Call::Reset => 0,
-        Call::SetSampleRate(_) => 0,
+        Call::Edit(p) | Call::EditRelative(p) => Some(p.id.0),
+        _ => None,
     }
 }
 
 // What becomes of an edit; any other call is done.
+#[tactic(auto, unfolding(crate::specs::Tracks::edit_answer_of))]
 pub fn answer_of(s: Sequencer, call: Call) -> Answer
     ensures { result ≡ edit_answer_of s call }
 {
     match call {
         Call::Edit(p) => standing::edit_answer(s, p, false),
         Call::EditRelative(p) => standing::edit_answer(s, p, true),
-        Call::Create {
-            channels: _,
-            mode: _,
-            first: _,
-        } => Answer::Done,
-        Call::Push(_) => Answer::Done,
-        Call::PushRelative(_) => Answer::Done,
-        Call::PushDuration(_) => Answer::Done,
-        Call::Tick => Answer::Done,
-        Call::Process(_) => Answer::Done,
-        Call::Reset => Answer::Done,
-        Call::SetSampleRate(_) => Answer::Done,
+        _ => Answer::Done,
     }
 }

@@ -9,18 +9,14 @@ use tape::reader;
 use tape::reader::Cursor;
 
 fn mixed_samples(digest: u64, samples: &[f32]) -> u64 {
-    let mut d = digest;
-    let mut i = 0;
-    while i < samples.len() {
-        d = mixed(d, float_bits::f32_to_bits(samples[i]) as u64);
-        i = i + 1;
-    }
-    d
+    samples.iter().fold(digest, |d, sample| {
+        mixed(d, u64::from(float_bits::f32_to_bits(*sample)))
+    })
 }
 
 // A record's line of the listing.
 fn mixed_counts(digest: u64, kind: u8, refusal: u64, counts: Counts) -> u64 {
-    let d = mixed(mixed(digest, kind as u64), refusal);
+    let d = mixed(mixed(digest, u64::from(kind)), refusal);
     let d = mixed(mixed(d, counts.waiting as u64), counts.sounding as u64);
     mixed(mixed(d, counts.finished as u64), counts.let_go)
 }
@@ -34,9 +30,8 @@ fn mixed_channels(
     stride: usize,
 ) -> u64 {
     let mut d = digest;
-    let mut left = channels;
     let mut from: usize = 0;
-    while left > 0 {
+    for _ in 0..channels {
         if samples.len() <= from {
             return d;
         }
@@ -47,8 +42,7 @@ fn mixed_channels(
             return d;
         }
         d = mixed_samples(d, &samples[from..from + each]);
-        from = from + stride;
-        left = left - 1;
+        from += stride;
     }
     d
 }
@@ -61,17 +55,12 @@ struct Played {
 
 // A tape's end, or the record that 14 or 15 refuses.
 fn stopped(p: Played, r: reader::Read, counts: Counts) -> Played {
-    match r {
-        reader::Read::Refused { kind, number } => Played {
-            records: std::num::wrapping_add_u64(p.records, 1),
-            digest: mixed_counts(p.digest, kind, number as u64, counts),
-        },
-        reader::Read::End => p,
-        reader::Read::Record {
-            kind: _,
-            call: _,
-            next: _,
-        } => p,
+    let reader::Read::Refused { kind, number } = r else {
+        return p;
+    };
+    Played {
+        records: p.records.wrapping_add(1),
+        digest: mixed_counts(p.digest, kind, u64::from(number), counts),
     }
 }
 
@@ -83,16 +72,14 @@ fn play(tape: &[u8], pool: &[f32]) -> Played {
         records: 0,
         digest: 0,
     };
-    let mut turns = tape.len();
-    while turns > 0 {
-        turns = turns - 1;
+    for _ in 0..tape.len() {
         let r = c.read(tape);
         let reader::Read::Record { kind, call, next } = r else {
             return stopped(p, r, s.counts());
         };
         let a = apply::apply(s, call, pool, &mut samples);
         s = a.sequencer;
-        p.records = std::num::wrapping_add_u64(p.records, 1);
+        p.records = p.records.wrapping_add(1);
         p.digest = mixed_counts(p.digest, kind, a.refusal, s.counts());
         if a.refusal == 1 {
             return p;
@@ -104,8 +91,10 @@ fn play(tape: &[u8], pool: &[f32]) -> Played {
 }
 
 fn print_line<W: Write>(out: &mut W, p: Played, count: usize, digest: u64) -> io::Result<()> {
-    let records = p.records;
-    let played = p.digest;
+    let Played {
+        records,
+        digest: played,
+    } = p;
     write!(out, "{records} {played:016x} {count} {digest:016x}\n")
 }
 
@@ -114,10 +103,9 @@ fn play_all<R: Read, W: Write>(from: &mut R, to: &mut W) -> io::Result<()> {
     let mut out = [0u8; 65536];
     let pool = tape::pool::trail_pool();
     for _ in 0..1000 {
-        let n = tape_input::next_tape(from, &mut buf);
-        if 65536 <= n {
+        let Some(n) = tape_input::next_tape(from, &mut buf) else {
             return Ok(());
-        }
+        };
         let p = play(&buf[..n], &pool);
         let count = render::render(&buf[..n], &mut out);
         if 65536 < count {

@@ -1,13 +1,15 @@
+// A record's kind stays the tape's byte, which the pages print; texts are put piece by piece and not by `write!`, which promises no bytes of a lent buffer.
 // Words of the pages about a tape, put piece by piece into a lent buffer (listing, pieces): each function answers the next free place, and a piece that has no room is left out.
 #![tactic(auto)]
 
 ghost use Rattle.std.specs.Prelude.{◌≡◌, cond, [], ◌∷◌, ◌+◌, eqb};
 ghost use Rattle.listing.specs.Pieces.{text, add, add_all};
 ghost use Rattle.listing.specs.Text.{decimal};
-ghost use Rattle.tape_words.specs.Words.{by_place, thousandths_text, time_text, peak_text, refusal_text, sum_text, call_text, call_at, push_text, answer_text};
+ghost use Rattle.tape_words.specs.Words.{is_sounding, by_place, thousandths_text, time_text, peak_text, refusal_text, sum_text, call_text, call_at, push_text, answer_text};
 
 use listing::pieces::{put_bytes, put_decimal};
 use sequencer::{Answer, Counts};
+use standing::Standing;
 
 // One of two texts: the first where `holds` is true.
 pub fn put_either(holds: bool, first: &[u8], second: &[u8], out: &mut [u8], at: usize) -> usize
@@ -19,9 +21,16 @@ pub fn put_either(holds: bool, first: &[u8], second: &[u8], out: &mut [u8], at: 
     put_bytes(second, out, at)
 }
 
-// One of four texts, by where a clip stands: 0 waiting, 1 sounding, 2 finished, 3 let go.
+// Whether a clip sounds.
+pub fn is_sounding(place: Standing) -> bool
+    ensures { result ≡ is_sounding place }
+{
+    matches!(place, Standing::Sounding)
+}
+
+// One of four texts, by where a clip stands.
 pub fn put_by_place(
-    place: u64,
+    place: Standing,
     waiting: &[u8],
     sounding: &[u8],
     finished: &[u8],
@@ -32,10 +41,10 @@ pub fn put_by_place(
     ensures { text out.new result ≡ add (by_place place waiting.now sounding.now finished.now let_go.now) (text out.old at) }
 {
     match place {
-        0 => put_bytes(waiting, out, at),
-        1 => put_bytes(sounding, out, at),
-        2 => put_bytes(finished, out, at),
-        _ => put_bytes(let_go, out, at),
+        Standing::Waiting => put_bytes(waiting, out, at),
+        Standing::Sounding => put_bytes(sounding, out, at),
+        Standing::Finished => put_bytes(finished, out, at),
+        Standing::LetGo => put_bytes(let_go, out, at),
     }
 }
 
@@ -98,16 +107,7 @@ pub fn put_refusal(which: u64, out: &mut [u8], at: usize) -> usize
 fn is_sum(n: u64, a: u64, b: u64, c: u64, d: u64) -> bool
     ensures { result ≡ eqb n (a + b + c + d) }
 {
-    if n < a {
-        return false;
-    }
-    if n - a < b {
-        return false;
-    }
-    if n - a - b < c {
-        return false;
-    }
-    n - a - b - c == d
+    a <= n && b <= n - a && c <= n - a - b && n - a - b - c == d
 }
 
 // The sum: accepted pushes = waiting + sounding + finished + let go.
@@ -138,12 +138,9 @@ fn put_push(kind: u8, out: &mut [u8], at: usize) -> usize
     ensures { text out.new result ≡ add (push_text kind) (text out.old at) }
 {
     match kind {
-        1 => put_bytes(b"push", out, at),
-        2 => put_bytes(b"push, relative", out, at),
-        3 => put_bytes(b"push, by duration", out, at),
-        10 => put_bytes(b"push", out, at),
-        11 => put_bytes(b"push, relative", out, at),
-        12 => put_bytes(b"push, by duration", out, at),
+        1 | 10 => put_bytes(b"push", out, at),
+        2 | 11 => put_bytes(b"push, relative", out, at),
+        3 | 12 => put_bytes(b"push, by duration", out, at),
         _ => put_bytes(b"rate", out, at),
     }
 }
@@ -179,9 +176,7 @@ pub fn put_answer(told: Answer, out: &mut [u8], at: usize) -> usize
         Answer::Applied => put_bytes(b"applied", out, at),
         Answer::Past => put_bytes(b"past", out, at),
         Answer::Stored => put_bytes(b"stored", out, at),
-        Answer::Done => put_bytes(b"done", out, at),
-        Answer::Number(_) => put_bytes(b"done", out, at),
-        Answer::Rendered(_) => put_bytes(b"done", out, at),
+        Answer::Done | Answer::Number(_) | Answer::Rendered(_) => put_bytes(b"done", out, at),
         Answer::Refused(_) => put_bytes(b"refused", out, at),
     }
 }

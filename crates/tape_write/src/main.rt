@@ -2,63 +2,43 @@
 // A kind of 256 + n stands for n bytes as they are, up to 112, which follow in its place. tape_text makes the arguments from a text. What goes wrong is said on standard error.
 #![tactic(auto)]
 
-ghost use Rattle.std.specs.Prelude.{◌+◌, ◌≤◌, length};
+ghost use Rattle.std.specs.Prelude.{◌≤◌};
 
 use std::io;
 use std::io::{BufReader, IsTerminal, Read};
-use tape_writer::Written;
+use tape_writer::Refusal;
 
 fn say_refusal<E: Eprint>(rt: &E, number: u64, record: u64) {
     let _ = eprint!(rt; "tape_write: record {record}: refusal {number}\n");
 }
 
-// Puts the first n bytes of `bytes` at a place, and answers the next free one.
-fn put_bytes(bytes: &[u8], n: usize, out: &mut [u8], at: usize) -> usize {
-    let mut i: usize = 0;
-    let mut to = at;
-    while i < n {
-        if bytes.len() <= i {
-            return to;
-        }
-        if out.len() <= to {
-            return to;
-        }
-        out[to] = bytes[i];
-        to = to + 1;
-        i = i + 1;
-    }
-    to
-}
-
 // Puts down what 120 bytes of arguments ask for, and answers the next free place.
-fn put_record(asked: &[u8], out: &mut [u8], at: usize) -> Written {
+fn put_record(asked: &[u8; 120], out: &mut [u8; 65536], at: usize) -> Result<usize, Refusal>
+    requires { at ≤ 65400 }
+{
     let a = argument_records::get(asked);
+    if 368 < a.kind {
+        return Err(Refusal::Undefined);
+    }
     if 256 <= a.kind {
-        if 368 < a.kind {
-            return Written::Refused(14);
-        }
-        if asked.len() < 8 {
-            return Written::Refused(14);
-        }
-        return Written::Next(put_bytes(&asked[8..], (a.kind - 256) as usize, out, at));
+        let n = (a.kind - 256) as usize;
+        out[at..at + n].copy_from_slice(&asked[8..8 + n]);
+        return Ok(at + n);
     }
     tape_writer::write(a, out, at)
 }
 
-// Writes the first `used` bytes.
-fn write_out<R: Print + Eprint>(rt: &R, out: &[u8], used: usize) -> bool {
-    if out.len() < used {
-        return false;
+// Writes the first `used` bytes; says so where they were not written.
+fn write_out<R: Print + Eprint>(rt: &R, out: &[u8], used: usize) -> io::Result<()> {
+    let written = rt.write_all(&out[..used.min(out.len())]);
+    if written.is_err() {
+        streams::say(rt, b"tape_write: standard output cannot be written\n");
     }
-    if rt.write_all(&out[..used]).is_ok() {
-        return true;
-    }
-    streams::say(rt, b"tape_write: standard output cannot be written\n");
-    false
+    written
 }
 
 // Writes the tape whose arguments standard input has.
-fn write_tape<R: Print + Eprint, I: Read>(rt: &R, from: &mut I) {
+fn write_tape<R: Print + Eprint, I: Read>(rt: &R, from: &mut I) -> io::Result<()> {
     let mut out = [0u8; 65536];
     let mut asked = [0u8; 120];
     let mut used: usize = 0;
@@ -69,27 +49,22 @@ fn write_tape<R: Print + Eprint, I: Read>(rt: &R, from: &mut I) {
             if n != 0 {
                 streams::say(rt, b"tape_write: the last arguments are cut\n");
             }
-            write_out(rt, &out, used);
-            return;
+            return write_out(rt, &out, used);
         }
         if 65400 < used {
-            if !write_out(rt, &out, used) {
-                return;
-            }
+            write_out(rt, &out, used)?;
             used = 0;
         }
-        let w = put_record(&asked, &mut out, used);
-        match w {
-            Written::Next(place) => {
-                used = place;
-            }
-            Written::Refused(number) => {
-                write_out(rt, &out, used);
-                say_refusal(rt, number, record);
-                return;
+        match put_record(&asked, &mut out, used) {
+            Ok(place) => used = place,
+            Err(refusal) => {
+                let _ = write_out(rt, &out, used);
+                say_refusal(rt, refusal.number(), record);
+                return Ok(());
             }
         }
     }
+    Ok(())
 }
 
 // There are no arguments, and on a terminal nothing could be read: there the usage is all.
@@ -102,6 +77,6 @@ fn main(rt: HostRuntime) -> io::Result<()> {
         return Ok(());
     }
     let mut from = BufReader::new(rt.alloc(), rt.stdin())?;
-    write_tape(&rt, &mut from);
+    let _ = write_tape(&rt, &mut from);
     Ok(())
 }

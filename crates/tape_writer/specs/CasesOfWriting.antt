@@ -1,5 +1,5 @@
 -- Document 02, Paper 6, by computation: the records of document 01's example tape byte by byte, records of the other kinds, the calls that arguments are and back, and both refusals. Arguments that a kind does not take are 999 or the NaN here. Assumes nothing.
-use Rattle.std.specs.Prelude.{ℕ, ◌-◌, ◌^◌, ◌≡◌, refl, true, false, List, [], ◌∷◌, ◌++◌, pos, negsuc, length, take, replicate, Float}
+use Rattle.std.specs.Prelude.{ℕ, ◌-◌, ◌^◌, ◌≡◌, refl, true, false, List, [], ◌∷◌, ◌++◌, pos, negsuc, take, replicate, Float, Ok, Err, Result}
 use Rattle.std.specs.Float.{nan, inf, fin}
 use Rattle.std.specs.Float.Ieee.{to_bits}
 use Rattle.event.specs.declared.Fade.{Fade}
@@ -15,8 +15,8 @@ use Rattle.tape.specs.Fields.{field, from_little_endian}
 use Rattle.tape.specs.Tape.{push_kind, size_of, sizes}
 use Rattle.tape.specs.Example.{example}
 use Rattle.tape_writer.specs.declared.Arguments.{Arguments}
-use Rattle.tape_writer.specs.declared.Written.{Written}
-use Rattle.tape_writer.specs.declared.Written.TheVariants.{Next, Refused}
+use Rattle.tape_writer.specs.declared.Refusal.{Refusal}
+use Rattle.tape_writer.specs.declared.Refusal.TheVariants.{Undefined, NoRoom}
 use Rattle.tape_writer.specs.Claim.{arguments_of, unused}
 use Rattle.little_endian.specs.LowBytes.{little_endian}
 use Rattle.little_endian.specs.Fields.{joined}
@@ -76,7 +76,7 @@ unfoldable pub after : Arguments → (buf : List ℕ) (at : ℕ) → List ℕ
 unfolding buffer_after answered undefined_by push_kind too_short size_of sizes bytes_by body_parts joined little_endian source_from to_bits
 after a buf at = buffer_after a buf at
 
-unfoldable pub answer : Arguments → (buf : List ℕ) (at : ℕ) → Written
+unfoldable pub answer : Arguments → (buf : List ℕ) (at : ℕ) → Result ℕ Refusal
 unfolding answered undefined_by push_kind too_short size_of sizes
 answer a buf at = answered a buf at
 
@@ -140,8 +140,8 @@ other_bytes = (refl, refl, refl)
 pub nineteen :
     answer (creation 1 0 1) (replicate 11 0) 0 ∷ answer (creation 1 0 1) (replicate 11 0) 1 ∷ answer (push 1 0 0 one one 0 0 one) (replicate 43 0) 0 ∷ answer (push 1 0 0 one one 0 0 one) (replicate 42 0) 0 ∷ answer (push 10 0 0 one one 0 0 one) (replicate 47 0) 0
     ∷ answer (push 10 0 0 one one 0 0 one) (replicate 46 0) 0 ∷ answer (bare 6) (0 ∷ []) 0 ∷ answer (bare 6) (0 ∷ []) 1 ∷ answer (bare 6) [] 0 ∷ answer (bare 8) (0 ∷ []) 2 ∷ answer (block 2) (replicate 3 0) (2 ^ 64 - 1) ∷ answer (edit 4 1 one one) (replicate 60 0) (2 ^ 64 - 25) ∷ []
-    ≡ Next 11 ∷ Refused 19 ∷ Next 43 ∷ Refused 19 ∷ Next 47
-    ∷ Refused 19 ∷ Next 1 ∷ Refused 19 ∷ Refused 19 ∷ Refused 19 ∷ Refused 19 ∷ Refused 19 ∷ []
+    ≡ Ok 11 ∷ Err NoRoom ∷ Ok 43 ∷ Err NoRoom ∷ Ok 47
+    ∷ Err NoRoom ∷ Ok 1 ∷ Err NoRoom ∷ Err NoRoom ∷ Err NoRoom ∷ Err NoRoom ∷ Err NoRoom ∷ []
 unfolding answer
 nineteen = refl
 
@@ -149,15 +149,15 @@ nineteen = refl
 pub fourteen :
     answer (bare 13) (replicate 50 0) 0 ∷ answer (bare 256) (replicate 50 0) 0 ∷ answer (bare (2 ^ 64 - 1)) [] 9 ∷ answer (creation 256 0 1) (replicate 50 0) 0 ∷ answer (creation 1 2 1) (replicate 50 0) 0 ∷ answer (creation 256 0 1) [] 1 ∷ answer (push 1 2 0 one one 0 0 one) (replicate 50 0) 0
     ∷ answer (push 12 0 3 one one 0 0 one) (replicate 50 0) 0 ∷ answer (push 2 256 0 one one 0 0 one) [] 0 ∷ answer (push 11 0 258 one one 0 0 one) [] 7 ∷ answer (block 256) (replicate 50 0) 0 ∷ answer (block 256) [] 0 ∷ answer (creation 0 1 0) (replicate 50 0) 0 ∷ answer (creation 9 0 1) (replicate 50 0) 0 ∷ answer (block 65) (replicate 50 0) 0 ∷ []
-    ≡ Refused 14 ∷ Refused 14 ∷ Refused 14 ∷ Refused 14 ∷ Refused 14 ∷ Refused 14 ∷ Refused 14
-    ∷ Refused 14 ∷ Refused 14 ∷ Refused 14 ∷ Refused 14 ∷ Refused 14 ∷ Next 11 ∷ Next 11 ∷ Next 2 ∷ []
+    ≡ Err Undefined ∷ Err Undefined ∷ Err Undefined ∷ Err Undefined ∷ Err Undefined ∷ Err Undefined ∷ Err Undefined
+    ∷ Err Undefined ∷ Err Undefined ∷ Err Undefined ∷ Err Undefined ∷ Err Undefined ∷ Ok 11 ∷ Ok 11 ∷ Ok 2 ∷ []
 unfolding answer
 fourteen = refl
 
 -- the greatest that are written, behind other bytes
 pub accepted_edges :
     answer (push 12 1 2 one one 0 0 one) (replicate 50 0) 3 ∷ answer (creation 255 1 0) (replicate 50 0) 2 ∷ answer (block 255) (replicate 50 0) 1 ∷ answer (rate one) (replicate 50 0) 41 ∷ []
-    ≡ Next 50 ∷ Next 13 ∷ Next 3 ∷ Next 50 ∷ []
+    ≡ Ok 50 ∷ Ok 13 ∷ Ok 3 ∷ Ok 50 ∷ []
 unfolding answer
 accepted_edges = refl
 

@@ -1,5 +1,5 @@
 -- Document 02, Paper 6, the two theorems, said with the reader's own definition `read_at` (tape/specs/Tape) for every buffer and place: they are proved in ReadBack and WrittenAgain. Assumes nothing.
-use Rattle.std.specs.Prelude.{◌≡◌, false, not, List, ℕ, ◌-◌, ◌^◌, ◌<◌, T, eqb, take, drop, Float}
+use Rattle.std.specs.Prelude.{◌≡◌, false, not, List, ℕ, ◌-◌, ◌^◌, ◌<◌, T, eqb, take, drop, Float, Ok}
 use Rattle.std.specs.Float.{binary32, binary64}
 use Rattle.std.specs.Float.Ieee.{is_nan, fits}
 use Rattle.floats.specs.Arithmetic.{zeroᶠ}
@@ -15,7 +15,6 @@ use Rattle.tape.specs.declared.reader.Read.TheVariants.{Record}
 use Rattle.tape.specs.declared.reader.Call.{Call}
 use Rattle.tape.specs.declared.reader.Call.TheVariants.{Create, Push, PushRelative, PushDuration, Edit, EditRelative, Tick, Process, Reset, SetSampleRate}
 use Rattle.tape_writer.specs.declared.Arguments.{Arguments}
-use Rattle.tape_writer.specs.declared.Written.TheVariants.{Next}
 use Rattle.tape_writer.specs.Writing.{call_from, bytes_of, answered, buffer_after}
 
 -- ---- "Each record written reads back, where its kind may stand, as the same call": 00 as the first record, any other as a later one
@@ -36,7 +35,7 @@ pub record Typed (a : Arguments) : Type 0 where
 
 -- a record that was written with the answer n
 abbrev pub ReadsBack : Type 0
-ReadsBack = (a : Arguments) → Typed a → (buf : List ℕ) (at n : ℕ) → answered a buf at ≡ Next n
+ReadsBack = (a : Arguments) → Typed a → (buf : List ℕ) (at n : ℕ) → answered a buf at ≡ Ok n
     → read_at (buffer_after a buf at) (record { at = at; first = eqb a.kind 0 }) ≡ Record a.kind (call_from a) (record { at = n; first = false })
 
 -- ---- "and a record that reads and is written again gives its own bytes, if a held source's unused word is 0 and no float is a NaN"
@@ -186,7 +185,7 @@ unused bs (SetSampleRate rate) = 0
 pub record WrittenAgain (tape : List ℕ) (at kind : ℕ) (call : Call) (next : ℕ) : Type 0 where
   pub same-call : call_from (arguments_of kind call) ≡ call
   pub own_bytes : bytes_of (arguments_of kind call) ≡ take (next - at) (drop at tape)
-  pub next_place : answered (arguments_of kind call) tape at ≡ Next next
+  pub next_place : answered (arguments_of kind call) tape at ≡ Ok next
   pub same_tape : buffer_after (arguments_of kind call) tape at ≡ tape
 
 abbrev pub WritesAgain : Type 0

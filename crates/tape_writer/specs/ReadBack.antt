@@ -1,5 +1,5 @@
 -- Document 02, Paper 6: "Each record written reads back, where its kind may stand, as the same call". Assumes nothing.
-use Rattle.std.specs.Prelude.{◌≡◌, Bool, List, [], ◌∷◌, ◌++◌, ℕ, ◌+◌, ◌%◌, ◌^◌, ◌≤◌, ◌<◌, T, ltb, eqb, take, drop, Float}
+use Rattle.std.specs.Prelude.{◌≡◌, Bool, List, [], ◌∷◌, ◌++◌, ℕ, ◌+◌, ◌%◌, ◌^◌, ◌≤◌, ◌<◌, T, ltb, eqb, take, drop, Float, Ok, Err}
 use Rattle.std.proofs.Math.Path.{refl, ap}
 use Rattle.std.proofs.Common.{sym, ◌∙◌, true≢false, append_assoc, arith, lit<, length-take-le, drop_at}
 use Rattle.std.proofs.Math.Bool.{true, false, cond}
@@ -19,7 +19,7 @@ use Rattle.tape.specs.declared.reader.Cursor.{Cursor}
 use Rattle.tape.specs.declared.reader.Read.TheVariants.{Record}
 use Rattle.tape.specs.declared.reader.Call.TheVariants.{Create, Push, PushRelative, PushDuration, Edit, EditRelative, Process, SetSampleRate}
 use Rattle.tape_writer.specs.declared.Arguments.{Arguments}
-use Rattle.tape_writer.specs.declared.Written.TheVariants.{Next, Refused}
+use Rattle.tape_writer.specs.declared.Refusal.TheVariants.{Undefined, NoRoom}
 use Rattle.little_endian.specs.LowBytes.{little_endian}
 use Rattle.little_endian.specs.Fields.{joined, byte, word, long}
 use Rattle.tape_writer.specs.Writing.{source_from, push_from, edit_from, call_by, call_from, push_parts, body_parts, bytes_by, bytes_of, undefined_by, undefined, too_short, answered, buffer_after}
@@ -230,7 +230,7 @@ read_back a t buf at n = go (undefined a) refl (too_short buf at (size_of a.kind
     c : Cursor
     c = record { at = at; first = eqb a.kind 0 }
 
-    go : (u : Bool) → undefined a ≡ u → (s : Bool) → too_short buf at (size_of a.kind) ≡ s → cond u (Refused 14) (cond s (Refused 19) (Next (at + size_of a.kind))) ≡ Next n
+    go : (u : Bool) → undefined a ≡ u → (s : Bool) → too_short buf at (size_of a.kind) ≡ s → cond u (Err Undefined) (cond s (Err NoRoom) (Ok (at + size_of a.kind))) ≡ Ok n
         → read_at (buffer_after a buf at) c ≡ Record a.kind (call_from a) (record { at = n; first = false })
     go true d s r e = let z : ◌≡◌ {A = ℕ} 0 1 = cc in absurd (omega arith)
     go false d true r e = let z : ◌≡◌ {A = ℕ} 0 1 = cc in absurd (omega arith)

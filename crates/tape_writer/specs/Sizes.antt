@@ -1,5 +1,5 @@
 -- The answer of a writing by its tests, and the length of what it puts down. Assumes nothing.
-use Rattle.std.specs.Prelude.{◌≡◌, Bool, List, ℕ, ◌+◌, ◌-◌, ◌≤◌, ◌<◌, ltb}
+use Rattle.std.specs.Prelude.{◌≡◌, Bool, List, ℕ, ◌+◌, ◌-◌, ◌≤◌, ◌<◌, ltb, Ok, Err}
 use Rattle.std.proofs.Math.Path.{refl}
 use Rattle.std.proofs.Math.Bool.{true, false, cond}
 use Rattle.std.proofs.Common.{true≢false, arith}
@@ -8,7 +8,7 @@ use Rattle.std.proofs.Math.ListN.{length}
 use Rattle.tape.specs.Tape.{sizes, size_of}
 use Rattle.tape.specs.Kinds.{each_kind}
 use Rattle.tape_writer.specs.declared.Arguments.{Arguments}
-use Rattle.tape_writer.specs.declared.Written.TheVariants.{Next, Refused}
+use Rattle.tape_writer.specs.declared.Refusal.TheVariants.{Undefined, NoRoom}
 use Rattle.little_endian.specs.LowBytes.{little_endian}
 use Rattle.little_endian.specs.Fields.{joined}
 use Rattle.tape_writer.specs.Writing.{body_parts, bytes_by, bytes_of, undefined_by, undefined, too_short, answered, laid, buffer_after}
@@ -32,15 +32,15 @@ some_bytes k a = omega arith
 
 -- ---- the tests in turn
 module _ (a : Arguments) (buf : List ℕ) (at : ℕ) where
-  pub refused-14 : undefined a ≡ true → (answered a buf at ≡ Refused 14) × (buffer_after a buf at ≡ buf)
+  pub refused-14 : undefined a ≡ true → (answered a buf at ≡ Err Undefined) × (buffer_after a buf at ≡ buf)
   unfolding answered buffer_after
   refused-14 h = (simp h, simp h)
 
-  pub refused-19 : undefined a ≡ false → too_short buf at (size_of a.kind) ≡ true → (answered a buf at ≡ Refused 19) × (buffer_after a buf at ≡ buf)
+  pub refused-19 : undefined a ≡ false → too_short buf at (size_of a.kind) ≡ true → (answered a buf at ≡ Err NoRoom) × (buffer_after a buf at ≡ buf)
   unfolding answered buffer_after
   refused-19 h k = (simp (h, k), simp (h, k))
 
-  pub accepted : undefined a ≡ false → too_short buf at (size_of a.kind) ≡ false → (answered a buf at ≡ Next (at + size_of a.kind)) × (buffer_after a buf at ≡ laid buf at (bytes_of a))
+  pub accepted : undefined a ≡ false → too_short buf at (size_of a.kind) ≡ false → (answered a buf at ≡ Ok (at + size_of a.kind)) × (buffer_after a buf at ≡ laid buf at (bytes_of a))
   unfolding answered buffer_after
   accepted h k = (simp (h, k), simp (h, k))
 

@@ -1,5 +1,5 @@
 -- Document 02, Paper 6: "Given a record's kind, its call's arguments (01 to 03 take no gain) and a lent buffer, the writer puts down the record and returns the next free place, leaving every other byte." The kinds and their numbers are those of the reader (tape/specs/Tape). Assumes nothing.
-use Rattle.std.specs.Prelude.{ℕ, ◌+◌, ◌-◌, Bool, true, false, cond, List, [], ◌∷◌, ◌++◌, ltb, eqb, length, take, drop}
+use Rattle.std.specs.Prelude.{ℕ, ◌+◌, ◌-◌, Bool, true, false, cond, List, [], ◌∷◌, ◌++◌, ltb, eqb, length, take, drop, Ok, Err, Result}
 use Rattle.floats.specs.Arithmetic.{oneᶠ}
 use Rattle.little_endian.specs.Fields.{Part, byte, word, long, double, single, joined}
 use Rattle.event.specs.declared.Source.{Source}
@@ -11,8 +11,8 @@ use Rattle.tape.specs.declared.reader.EditRecord.{EditRecord}
 use Rattle.tape.specs.declared.reader.Call.{Call}
 use Rattle.tape.specs.declared.reader.Call.TheVariants.{Create, Push, PushRelative, PushDuration, Edit, EditRelative, Tick, Process, Reset, SetSampleRate}
 use Rattle.tape_writer.specs.declared.Arguments.{Arguments}
-use Rattle.tape_writer.specs.declared.Written.{Written}
-use Rattle.tape_writer.specs.declared.Written.TheVariants.{Next, Refused}
+use Rattle.tape_writer.specs.declared.Refusal.{Refusal}
+use Rattle.tape_writer.specs.declared.Refusal.TheVariants.{Undefined, NoRoom}
 
 -- ---- the call that the arguments are; its kind k stands apart
 
@@ -105,18 +105,23 @@ undefined a = undefined_by a.kind a
 unfoldable pub too_short : (buf : List ℕ) (at size : ℕ) → Bool
 too_short buf at size = cond (ltb (length buf) at) true (ltb (length buf - at) size)
 
+-- document 01's number of a refusal
+abbrev pub refusal_number : Refusal → ℕ
+refusal_number Undefined = 14
+refusal_number NoRoom = 19
+
 -- "is 14, before 19"
-unfoldable pub answered : Arguments → (buf : List ℕ) (at : ℕ) → Written
-answered a buf at = cond (undefined a) (Refused 14) (cond (too_short buf at (size_of a.kind)) (Refused 19) (Next (at + size_of a.kind)))
+unfoldable pub answered : Arguments → (buf : List ℕ) (at : ℕ) → Result ℕ Refusal
+answered a buf at = cond (undefined a) (Err Undefined) (cond (too_short buf at (size_of a.kind)) (Err NoRoom) (Ok (at + size_of a.kind)))
 
 -- "puts down the record .., leaving every other byte"
 abbrev pub laid : (buf : List ℕ) (at : ℕ) (bytes : List ℕ) → List ℕ
 laid buf at bytes = take at buf ++ bytes ++ drop (at + length bytes) buf
 
 -- "no byte changes"
-abbrev pub leaving : Written → (before after : List ℕ) → List ℕ
-leaving (Next n) before after = after
-leaving (Refused n) before after = before
+abbrev pub leaving : Result ℕ Refusal → (before after : List ℕ) → List ℕ
+leaving (Ok n) before after = after
+leaving (Err e) before after = before
 
 unfoldable pub buffer_after : Arguments → (buf : List ℕ) (at : ℕ) → List ℕ
 buffer_after a buf at = leaving (answered a buf at) buf (laid buf at (bytes_of a))

@@ -1,5 +1,5 @@
 -- Document 02, Paper 6: "a record that reads and is written again gives its own bytes, if a held source's unused word is 0 and no float is a NaN". Assumes nothing.
-use Rattle.std.specs.Prelude.{◌≡◌, Bool, cond, ℕ, zero, suc, ◌+◌, ◌-◌, ◌≤◌, ◌<◌, ltb, eqb, length, take, drop, Float}
+use Rattle.std.specs.Prelude.{◌≡◌, Bool, cond, ℕ, zero, suc, ◌+◌, ◌-◌, ◌≤◌, ◌<◌, ltb, eqb, length, take, drop, Float, Ok}
 use Rattle.std.proofs.Math.Path.{refl, sym, ap}
 use Rattle.std.proofs.Common.{◌∙◌, subst, true≢false, le_refl, arith, ltb-true, ltb-false, le-ltb, length-drop, take-append-drop, take-add, drop-drop, length-take-le}
 use Rattle.std.proofs.Math.Bool.{true, false}
@@ -24,7 +24,6 @@ use Rattle.tape.specs.declared.reader.Read.TheVariants.{Record, Refused, End}
 use Rattle.tape.specs.declared.reader.Call.{Call}
 use Rattle.tape.specs.declared.reader.Call.TheVariants.{Create, Push, PushRelative, PushDuration, Edit, EditRelative, Tick, Process, Reset, SetSampleRate}
 use Rattle.tape_writer.specs.declared.Arguments.{Arguments}
-use Rattle.tape_writer.specs.declared.Written.TheVariants.{Next}
 use Rattle.little_endian.specs.LowBytes.{little_endian}
 use Rattle.little_endian.specs.Fields.{Part, joined, byte, word, long}
 use Rattle.tape_writer.specs.Writing.{source_from, push_from, edit_from, call_by, body_parts, bytes_by, bytes_of, undefined_by, laid}
@@ -321,6 +320,6 @@ written-again tape b c kind call next e n u = made (taken tape c kind call next 
         record {
           same-call = subst (λ (x : ℕ). call_by x a ≡ call) its f.1;
           own_bytes = own ∙ ap (λ (x : ℕ). take x bs) size;
-          next_place = r.0 ∙ ap (λ (x : ℕ). Next (c.at + size_of x)) (sym its) ∙ ap Next place;
+          next_place = r.0 ∙ ap (λ (x : ℕ). Ok (c.at + size_of x)) (sym its) ∙ ap Ok place;
           same_tape = r.1 ∙ ap (λ (x : List ℕ). laid tape c.at x) own ∙ laid-again tape c.at (size_of kind) whole;
         }

@@ -7,6 +7,7 @@ use crate::Arguments;
 use event::{EventId, Fade, ReplayMode, Source};
 use tape::reader::{Call, EditRecord, PushRecord};
 
+// This and `curve_number` are no From: the enums are crate event's, where an impl would have to stand.
 fn mode_number(mode: ReplayMode) -> u64
     ensures { result ≡ mode_number mode }
 {

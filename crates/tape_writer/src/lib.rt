@@ -3,11 +3,10 @@
 
 pub mod calls;
 
-ghost use Rattle.std.specs.Prelude.{◌≡◌, cond, ◌<◌};
-ghost use Rattle.little_endian.specs.Fields.{fields_of};
+ghost use Rattle.std.specs.Prelude.{◌≡◌, cond, ◌<◌, length};
 ghost use Rattle.event.specs.Numbers.{first_word, second_word};
-ghost use Rattle.tape.specs.Tape.{gain_kind, push_kind, size_of};
-ghost use Rattle.tape_writer.specs.Writing.{bytes_of, undefined, answered, buffer_after, source_from};
+ghost use Rattle.tape.specs.Tape.{gain_kind};
+ghost use Rattle.tape_writer.specs.Writing.{bytes_of, undefined, refusal_number, answered, buffer_after, source_from};
 
 use float_bits::{f32_to_bits, f64_to_bits};
 use tape::reader;
@@ -37,18 +36,25 @@ pub struct Arguments {
     pub sample_rate: f64,
 }
 
-// The next free place, or a refusal: 14 or 19.
-#[derive(Clone, Copy)]
-pub enum Written {
-    Next(usize),
-    Refused(u64),
+// Why a record is not written.
+#[derive(Clone, Copy, PartialEq, Eq)]
+pub enum Refusal {
+    // an undefined kind, mode, curve or source, or channels or a block size above 255
+    Undefined,
+    // the buffer has no room for the record at the free place
+    NoRoom,
 }
 
-// A record's fields in their order: numbers, each in so many bytes. Those that are not there have the width 0.
-#[derive(Clone, Copy)]
-struct Parts {
-    widths: [usize; 10],
-    numbers: [u64; 10],
+impl Refusal {
+    // Document 01's number.
+    pub fn number(self) -> u64
+        ensures { result ≡ refusal_number self }
+    {
+        match self {
+            Refusal::Undefined => 14,
+            Refusal::NoRoom => 19,
+        }
+    }
 }
 
 // 14.
@@ -60,29 +66,23 @@ fn is_undefined(a: Arguments) -> bool
         return true;
     }
     if kind == 0 {
-        if 255 < a.channels {
-            return true;
-        }
-        return 1 < a.mode;
+        return 255 < a.channels || 1 < a.mode;
     }
     if kind == 7 {
         return 255 < a.size;
     }
     if reader::is_push(kind as u8) {
-        if 1 < a.curve {
-            return true;
-        }
-        return 2 < a.source;
+        return 1 < a.curve || 2 < a.source;
     }
     false
 }
 
 // The source's words. A held source has one; the other is 0.
+// (Arms 0 and 1 stay apart: of `0 | 1` a proof has only that it is below 2, and the definition goes case by case.)
 fn first_word(a: Arguments) -> u32
     ensures { result ≡ first_word (source_from a) }
 {
-    let source = a.source;
-    match source {
+    match a.source {
         0 => f32_to_bits(a.value),
         1 => f32_to_bits(a.value),
         _ => a.offset,
@@ -92,8 +92,7 @@ fn first_word(a: Arguments) -> u32
 fn second_word(a: Arguments) -> u32
     ensures { result ≡ second_word (source_from a) }
 {
-    let source = a.source;
-    match source {
+    match a.source {
         0 => 0,
         1 => f32_to_bits(a.step),
         _ => a.length,
@@ -106,93 +105,72 @@ fn gain_width(kind: u8) -> usize
     if reader::has_gain(kind) { 4 } else { 0 }
 }
 
-fn parts_of(a: Arguments) -> Parts
-    requires { a.kind < 13 }
-    ensures { fields_of result.widths result.numbers ≡ bytes_of a }
+// The record's fields, put down in a part of the buffer that is as long as the record.
+fn put_record(a: Arguments, out: &mut [u8])
+    requires known { a.kind < 13 }
+    requires room { length out.old ≡ length (bytes_of a) }
+    ensures { out.new ≡ bytes_of a }
 {
     let kind = a.kind;
     let k = reader::plain_kind(kind as u8);
     if k == 0 {
-        return Parts {
-            widths: [1, 1, 1, 8, 0, 0, 0, 0, 0, 0],
-            numbers: [kind, a.channels, a.mode, a.number, 0, 0, 0, 0, 0, 0],
-        };
+        little_endian::put_fields(&[1, 1, 1, 8], &[kind, a.channels, a.mode, a.number], out);
+        return;
     }
     if k < 4 {
         let first = first_word(a) as u64;
         let second = second_word(a) as u64;
         let gain = f32_to_bits(a.gain) as u64;
+        // without gain bytes the gain's field has none
         let width = gain_width(kind as u8);
-        return Parts {
-            widths: [1, 8, 8, 8, 8, 1, 1, 4, 4, width],
-            numbers: [
-                kind,
-                f64_to_bits(a.start_time),
-                f64_to_bits(a.end_time),
-                f64_to_bits(a.fade_in),
-                f64_to_bits(a.fade_out),
-                a.curve,
-                a.source,
-                first,
-                second,
-                gain,
-            ],
-        };
+        let numbers = [
+            kind,
+            f64_to_bits(a.start_time),
+            f64_to_bits(a.end_time),
+            f64_to_bits(a.fade_in),
+            f64_to_bits(a.fade_out),
+            a.curve,
+            a.source,
+            first,
+            second,
+            gain,
+        ];
+        little_endian::put_fields(&[1, 8, 8, 8, 8, 1, 1, 4, 4, width], &numbers, out);
+        return;
     }
     if k < 6 {
-        return Parts {
-            widths: [1, 8, 8, 8, 0, 0, 0, 0, 0, 0],
-            numbers: [
-                kind,
-                a.number,
-                f64_to_bits(a.end_time),
-                f64_to_bits(a.fade_out),
-                0,
-                0,
-                0,
-                0,
-                0,
-                0,
-            ],
-        };
+        let numbers = [
+            kind,
+            a.number,
+            f64_to_bits(a.end_time),
+            f64_to_bits(a.fade_out),
+        ];
+        little_endian::put_fields(&[1, 8, 8, 8], &numbers, out);
+        return;
     }
     if k == 7 {
-        return Parts {
-            widths: [1, 1, 0, 0, 0, 0, 0, 0, 0, 0],
-            numbers: [kind, a.size, 0, 0, 0, 0, 0, 0, 0, 0],
-        };
+        little_endian::put_fields(&[1, 1], &[kind, a.size], out);
+        return;
     }
     if k == 9 {
-        return Parts {
-            widths: [1, 8, 0, 0, 0, 0, 0, 0, 0, 0],
-            numbers: [kind, f64_to_bits(a.sample_rate), 0, 0, 0, 0, 0, 0, 0, 0],
-        };
+        little_endian::put_fields(&[1, 8], &[kind, f64_to_bits(a.sample_rate)], out);
+        return;
     }
-    Parts {
-        widths: [1, 0, 0, 0, 0, 0, 0, 0, 0, 0],
-        numbers: [kind, 0, 0, 0, 0, 0, 0, 0, 0, 0],
-    }
+    little_endian::put_fields(&[1], &[kind], out);
 }
 
-// Puts down the record at the free place.
-pub fn write(a: Arguments, buf: &mut [u8], at: usize) -> Written
+// Puts down the record at the free place and answers the next one.
+pub fn write(a: Arguments, buf: &mut [u8], at: usize) -> Result<usize, Refusal>
     ensures answer { result ≡ answered a buf.old at }
     ensures lent { buf.new ≡ buffer_after a buf.old at }
 {
     if is_undefined(a) {
-        return Written::Refused(14);
+        return Err(Refusal::Undefined);
     }
-    let kind = a.kind;
-    let n = reader::size_of(kind as u8);
-    if buf.len() < at {
-        return Written::Refused(19);
+    let n = reader::size_of(a.kind as u8);
+    if buf.len() < at || buf.len() - at < n {
+        return Err(Refusal::NoRoom);
     }
-    if buf.len() - at < n {
-        return Written::Refused(19);
-    }
-    let p = parts_of(a);
-    let widths = p.widths;
-    let numbers = p.numbers;
-    little_endian::put_fields(&widths, &numbers, &mut buf[at..at + n]);
-    Written::Next(at + n)
+    put_record(a, &mut buf[at..at + n]);
+    Ok(at + n)
 }

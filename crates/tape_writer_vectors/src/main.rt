@@ -11,7 +11,7 @@ use std::io;
 use std::io::{BufReader, BufWriter, Read, Write};
 use tape::reader::Cursor;
 use tape::{fields, reader};
-use tape_writer::{Arguments, Written, calls};
+use tape_writer::{Arguments, Refusal, calls};
 
 fn print_bytes<W: Write>(out: &mut W, bytes: &[u8]) -> io::Result<()> {
     for b in bytes {
@@ -20,17 +20,20 @@ fn print_bytes<W: Write>(out: &mut W, bytes: &[u8]) -> io::Result<()> {
     Ok(())
 }
 
-fn print_answer<W: Write>(out: &mut W, w: Written) -> io::Result<()> {
-    match w {
-        Written::Next(place) => write!(out, "{place}"),
-        Written::Refused(number) => write!(out, "refused {number}"),
+fn print_answer<W: Write>(out: &mut W, answer: Result<usize, Refusal>) -> io::Result<()> {
+    match answer {
+        Ok(place) => write!(out, "{place}"),
+        Err(refusal) => {
+            let number = refusal.number();
+            write!(out, "refused {number}")
+        }
     }
 }
 
 fn within(n: u32) -> usize
     ensures { result ≤ 64 }
 {
-    if n <= 64 { n as usize } else { 64 }
+    (n as usize).min(64)
 }
 
 // Writes the record, and prints the answer and the buffer.
@@ -58,18 +61,15 @@ fn write_one<R: Read, W: Write>(from: &mut R, out: &mut W) -> io::Result<bool> {
 // Reads each record of the tape and writes it again at its own place; the place where that ended.
 fn rewrite(tape: &[u8], out: &mut [u8]) -> usize {
     let mut c = Cursor { at: 0, first: true };
-    let mut turns = tape.len();
-    while turns > 0 {
-        turns = turns - 1;
+    for _ in 0..tape.len() {
         let at = c.at;
         let r = c.read(tape);
         let reader::Read::Record { kind, call, next } = r else {
             return at;
         };
-        let w = tape_writer::write(calls::arguments_of(kind, call), out, at);
-        let Written::Next(_) = w else {
+        if tape_writer::write(calls::arguments_of(kind, call), out, at).is_err() {
             return at;
-        };
+        }
         c = next;
     }
     c.at
@@ -100,10 +100,9 @@ fn rewrite_all<R: Read, W: Write>(from: &mut R, to: &mut W) -> io::Result<()> {
     let mut buf = [0u8; 65536];
     let mut out = [0u8; 65536];
     for _ in 0..1000 {
-        let n = tape_input::next_tape(from, &mut buf);
-        if 65536 <= n {
+        let Some(n) = tape_input::next_tape(from, &mut buf) else {
             return Ok(());
-        }
+        };
         let place = rewrite(&buf[..n], &mut out);
         if 65536 < place {
             return Ok(());

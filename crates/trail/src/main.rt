@@ -7,20 +7,18 @@ ghost use Rattle.std.specs.Prelude.{◌≡◌, ◌≤◌, length};
 mod say;
 
 use record_output::{Form, Pause};
+use std::io;
 use std::io::{IsTerminal, Read};
 use std::rt::{Env, Files};
 use tape::reader::Cursor;
 
-// Writes the first `used` bytes of the text; false where they were not written.
-fn write_out<R: Print + Eprint>(rt: &R, text: &[u8], used: usize) -> bool {
-    if text.len() < used {
-        return false;
+// Writes the first `used` bytes of the text; says so where they were not written.
+fn write_out<R: Print + Eprint>(rt: &R, text: &[u8], used: usize) -> io::Result<()> {
+    let written = rt.write_all(&text[..used.min(text.len())]);
+    if written.is_err() {
+        streams::say(rt, b"trail: standard output cannot be written\n");
     }
-    if rt.write_all(&text[..used]).is_ok() {
-        return true;
-    }
-    streams::say(rt, b"trail: standard output cannot be written\n");
-    false
+    written
 }
 
 // How many bytes of the tape are at hand, and whether they are all that is left of it.
@@ -42,18 +40,23 @@ fn read_more<E: Eprint, R: Read>(
     ensures have_in_bounds { result.have ≤ length buf.old }
 {
     let kept = tape_input::shift(buf, at, have);
-    let came = tape_input::read_on(from, buf, kept);
-    if came.failed {
-        streams::say(rt, b"trail: standard input cannot be read\n");
-    }
-    Hand {
-        have: kept + came.count,
-        whole: came.count == 0,
+    match tape_input::read_on(from, buf, kept) {
+        Ok(count) => Hand {
+            have: kept + count,
+            whole: count == 0,
+        },
+        Err(_) => {
+            streams::say(rt, b"trail: standard input cannot be read\n");
+            Hand {
+                have: kept,
+                whole: true,
+            }
+        }
     }
 }
 
 // Lists the tape that standard input has. The engine stays in four arrays, in which each call of `run` goes on.
-fn list<R: Input + Print + Eprint>(rt: &R, pool: &[f32]) {
+fn list<R: Input + Print + Eprint>(rt: &R, pool: &[f32]) -> io::Result<()> {
     let mut from = rt.reader();
     let mut buf = [0u8; 65536];
     let mut text = [0u8; 65536];
@@ -81,15 +84,9 @@ fn list<R: Input + Print + Eprint>(rt: &R, pool: &[f32]) {
         cursor = p.cursor;
         let pause = p.pause;
         match pause {
-            Pause::Full => {
-                if !write_out(rt, &text, p.used) {
-                    return;
-                }
-            }
+            Pause::Full => write_out(rt, &text, p.used)?,
             Pause::Short => {
-                if !write_out(rt, &text, p.used) {
-                    return;
-                }
+                write_out(rt, &text, p.used)?;
                 let hand = read_more(rt, &mut from, &mut buf, cursor.at, have);
                 let first = cursor.first;
                 cursor = Cursor { at: 0, first };
@@ -97,28 +94,21 @@ fn list<R: Input + Print + Eprint>(rt: &R, pool: &[f32]) {
                 whole = hand.whole;
             }
             Pause::Refused(number) => {
-                write_out(rt, &text, p.used);
+                let _ = write_out(rt, &text, p.used);
                 say::refusal(rt, number as u64);
-                return;
+                return Ok(());
             }
-            Pause::End => {
-                write_out(rt, &text, p.used);
-                return;
-            }
+            Pause::End => return write_out(rt, &text, p.used),
         }
     }
+    Ok(())
 }
 
 // With the pool that a file has.
 fn list_with_pool<R: Input + Files + Print + Eprint + Alloc>(rt: &R, path: &[u8]) {
     let mut pool = pool_file::room();
-    let loaded = pool_file::load(rt, path, &mut pool);
-    if !loaded.good {
-        return;
-    }
-    let n = loaded.count;
-    if n <= 262144 {
-        list(rt, &pool[..n]);
+    if let Some(n) = pool_file::load(rt, path, &mut pool) {
+        let _ = list(rt, &pool[..n]);
     }
 }
 
@@ -152,5 +142,5 @@ fn main(rt: HostRuntime) {
         return;
     }
     let pool = tape::pool::trail_pool();
-    list(&rt, &pool);
+    let _ = list(&rt, &pool);
 }

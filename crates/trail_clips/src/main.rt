@@ -8,8 +8,6 @@ ghost use Rattle.std.specs.Prelude.{◌≤◌, length};
 
 use event::EventId;
 use memory::{Levels, Marks, Numbers, Times};
-use overlap::{FirstWaiting, Found};
-use runs::least;
 use std::io;
 use std::io::{BufWriter, Write};
 use std::rt::Env;
@@ -17,64 +15,36 @@ use tape::reader::{Cursor, Read};
 
 // ---- arguments
 
-fn is_infinite(text: &[u8]) -> bool {
-    if text.len() != 3 {
-        return false;
-    }
-    if text[0] != b'i' {
-        return false;
-    }
-    if text[1] != b'n' {
-        return false;
-    }
-    text[2] == b'f'
-}
-
-// Milliseconds as seconds; a NaN where there is no digit, anything but digits, or more than 15 of them.
+// Milliseconds as seconds; a NaN where there is no digit, anything but digits, or more than 15 of them. Not by `parse`, which takes a sign.
 fn seconds(text: &[u8]) -> f64 {
-    if is_infinite(text) {
-        return 1.0 / 0.0;
+    if text == b"inf".as_slice() {
+        return f64::INFINITY;
     }
-    if text.len() == 0 {
-        return 0.0 / 0.0;
-    }
-    if 15 < text.len() {
-        return 0.0 / 0.0;
+    if text.is_empty() || 15 < text.len() {
+        return f64::NAN;
     }
     let mut value = 0.0;
-    let mut i = 0;
-    while i < text.len() {
-        let b = text[i];
-        if b < b'0' {
-            return 0.0 / 0.0;
+    for b in text {
+        if !b.is_ascii_digit() {
+            return f64::NAN;
         }
-        if b'9' < b {
-            return 0.0 / 0.0;
-        }
-        value = value * 10.0 + std::num::nearest_u64_to_f64((b - b'0') as u64);
-        i = i + 1;
+        value = value * 10.0 + f64::from(*b - b'0');
     }
     value / 1000.0
 }
 
 fn signed_seconds(text: &[u8]) -> f64 {
-    if 0 < text.len() {
-        if text[0] == b'-' {
-            return -1.0 * seconds(&text[1..]);
-        }
+    match text.strip_prefix(b"-") {
+        Some(rest) => -1.0 * seconds(rest),
+        None => seconds(text),
     }
-    seconds(text)
 }
 
 // Argument i. A missing one, or one that is too long, is empty.
 fn argument<E: Env>(env: &E, i: usize) -> f64 {
     let mut text = [0u8; 32];
     let n = streams::argument(env, i, &mut text);
-    if n <= 32 {
-        signed_seconds(&text[..n])
-    } else {
-        0.0 / 0.0
-    }
+    signed_seconds(&text[..n])
 }
 
 fn is_length_given<E: Env>(env: &E) -> bool {
@@ -85,29 +55,12 @@ fn is_length_given<E: Env>(env: &E) -> bool {
 fn slice_length<E: Env>(env: &E) -> usize {
     if is_length_given(env) {
         let nearest = floats::sample_index(argument(env, 3) * 1000.0);
-        return least(nearest.index as usize, 512);
+        return (nearest.index as usize).min(512);
     }
     256
 }
 
 // ---- the tape
-
-// Arrays that hold an engine without events, before the tape makes its own.
-fn blank_times() -> Times {
-    [0.0; 3588]
-}
-
-fn blank_levels() -> Levels {
-    [0.0; 3072]
-}
-
-fn blank_marks() -> Marks {
-    [0; 3072]
-}
-
-fn blank_numbers() -> Numbers {
-    [0; 1288]
-}
 
 // Plays the tape on the engine that the arrays hold, as far as no record stops it.
 fn play(
@@ -120,9 +73,7 @@ fn play(
 ) {
     let mut samples = apply::silence();
     let mut c = Cursor { at: 0, first: true };
-    let mut turns = bytes.len();
-    while turns > 0 {
-        turns = turns - 1;
+    for _ in 0..bytes.len() {
         let r = c.read(bytes);
         let Read::Record { kind, call, next } = r else {
             return;
@@ -146,18 +97,9 @@ fn play(
 
 // ---- what is printed
 
-fn line<W: Write>(out: &mut W, n: u64) -> io::Result<()> {
-    write!(out, "{n}\n")
-}
-
 fn list_numbers<W: Write>(out: &mut W, numbers: &[u64], n: usize) -> io::Result<()> {
-    let mut i = 0;
-    while i < n {
-        if numbers.len() <= i {
-            return Ok(());
-        }
-        line(out, numbers[i])?;
-        i = i + 1;
+    for number in numbers.iter().take(n) {
+        write!(out, "{number}\n")?;
     }
     Ok(())
 }
@@ -172,46 +114,36 @@ fn list_clips<W: Write>(
     to: f64,
     out: &mut [u64],
 ) -> io::Result<()> {
-    let found = overlap::clips(times, levels, marks, numbers, from, to, out);
-    match found {
-        Found::Clips(n) => {
+    match overlap::clips(times, levels, marks, numbers, from, to, out) {
+        Ok(n) => {
             write!(to_print, "clips {n}\n")?;
             list_numbers(to_print, out, n)
         }
-        Found::Refused(n) => {
-            to_print.write_all(b"clips refused ")?;
-            line(to_print, n)
+        Err(refusal) => {
+            let n = refusal.number();
+            write!(to_print, "clips refused {n}\n")
         }
     }
 }
 
 // What place i of the slice holds before the call; no event has such a number.
 fn mark(i: usize) -> u64 {
-    18446744073709551615 - (i as u64)
+    u64::MAX - i as u64
 }
 
 fn mark_all(row: &mut [u64]) {
-    let mut i = 0;
-    while i < row.len() {
-        row[i] = mark(i);
-        i = i + 1;
+    for (i, place) in row.iter_mut().enumerate() {
+        *place = mark(i);
     }
 }
 
 // How many of the first n places are as `mark_all` left them.
-fn count_left(row: &[u64], n: usize) -> u64 {
-    let mut count: u64 = 0;
-    let mut i = 0;
-    while i < n {
-        if row.len() <= i {
-            return count;
-        }
-        if row[i] == mark(i) {
-            count = std::num::wrapping_add_u64(count, 1);
-        }
-        i = i + 1;
-    }
-    count
+fn count_left(row: &[u64], n: usize) -> usize {
+    row.iter()
+        .take(n)
+        .enumerate()
+        .filter(|(i, number)| **number == mark(*i))
+        .count()
 }
 
 // Lists the clips by a slice of `length` numbers, the front of the row.
@@ -244,8 +176,8 @@ fn list_by_slice<W: Write>(
 
 fn list_left<W: Write>(out: &mut W, given: bool, row: &[u64], length: usize) -> io::Result<()> {
     if given {
-        out.write_all(b"left ")?;
-        line(out, count_left(row, length))?;
+        let left = count_left(row, length);
+        write!(out, "left {left}\n")?;
     }
     Ok(())
 }
@@ -258,16 +190,12 @@ fn list_first<W: Write>(
     numbers: &Numbers,
     time: f64,
 ) -> io::Result<()> {
-    let first = overlap::first_from(times, levels, marks, numbers, time);
-    match first {
-        FirstWaiting::Number(id) => {
-            out.write_all(b"first ")?;
-            line(out, id.0)
-        }
-        FirstWaiting::Nothing => out.write_all(b"first none\n"),
-        FirstWaiting::Refused(n) => {
-            out.write_all(b"first refused ")?;
-            line(out, n)
+    match overlap::first_from(times, levels, marks, numbers, time) {
+        Ok(Some(EventId(n))) => write!(out, "first {n}\n"),
+        Ok(None) => out.write_all(b"first none\n"),
+        Err(refusal) => {
+            let n = refusal.number();
+            write!(out, "first refused {n}\n")
         }
     }
 }
@@ -281,10 +209,10 @@ fn list<E: Env, W: Write>(
     to: f64,
 ) -> io::Result<()> {
     let pool = tape::pool::trail_pool();
-    let mut times = blank_times();
-    let mut levels = blank_levels();
-    let mut marks = blank_marks();
-    let mut numbers = blank_numbers();
+    let mut times = player::blank_times();
+    let mut levels = player::blank_levels();
+    let mut marks = player::blank_marks();
+    let mut numbers = player::blank_numbers();
     play(
         &mut times,
         &mut levels,

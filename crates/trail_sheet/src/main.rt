@@ -10,11 +10,12 @@ ghost use Rattle.std.specs.Prelude.{◌≡◌, length};
 
 use page::{LastMark, Page};
 use sequencer::Sequencer;
+use standing::Standing;
 use std::io;
 use std::io::{BufWriter, Write};
 use std::os::unix::fs::FileExt;
 use tape::reader::{Call, Read};
-use tape_pages::both;
+use tape_tracks::{Track, Tracks};
 
 fn record<E: Eprint, F: FileExt>(rt: &E, file: &F, at: u64, first: bool) -> Read {
     tape_pages::record(rt, b"trail_sheet", file, at, first)
@@ -26,166 +27,91 @@ fn record<E: Eprint, F: FileExt>(rt: &E, file: &F, at: u64, first: bool) -> Read
 fn draw_move<W: Write>(
     out: &mut W,
     page: Page,
-    clip: u64,
-    was: u64,
-    to: u64,
-    from: u64,
+    track: Track,
+    to: Standing,
     now: u64,
 ) -> io::Result<u64> {
-    if to == was {
-        return Ok(from);
+    if to == track.place {
+        return Ok(track.since);
     }
-    page::segment(out, page, clip, was, from, now)?;
-    if to == tape_tracks::LET_GO {
-        page::segment(out, page, clip, to, now, page.total)?;
+    page::segment(out, page, track, now)?;
+    if to == Standing::LetGo {
+        let gone = Track {
+            clip: track.clip,
+            place: to,
+            since: now,
+        };
+        page::segment(out, page, gone, page.total)?;
     }
     Ok(now)
 }
 
-// Where a count has changed, draws how every clip moved, keeps those that are held, and answers how many they are.
+// Draws how every clip moved, and keeps those that are held.
 fn follow<W: Write>(
     out: &mut W,
-    moved: bool,
     page: Page,
     s: Sequencer,
-    clips: &mut [u64],
-    places: &mut [u64],
-    since: &mut [u64],
-    count: usize,
+    tracks: &mut Tracks,
     now: u64,
-) -> io::Result<usize> {
-    if !moved {
-        return Ok(count);
-    }
-    let mut kept = 0;
-    let mut i = 0;
-    while i < count {
-        let clip = tape_tracks::at(clips, i);
-        let to = tape_tracks::stands(s, clip);
-        let from = draw_move(
-            out,
-            page,
-            clip,
-            tape_tracks::at(places, i),
-            to,
-            tape_tracks::at(since, i),
-            now,
-        )?;
-        tape_tracks::set(clips, kept, clip);
-        tape_tracks::set(places, kept, to);
-        tape_tracks::set(since, kept, from);
-        kept = tape_tracks::next_place(kept, to);
-        i = i + 1;
-    }
-    Ok(kept)
-}
-
-// A clip that was laid is drawn, and held from now on.
-fn enter_if<W: Write>(
-    out: &mut W,
-    laid: bool,
-    page: Page,
-    clips: &mut [u64],
-    places: &mut [u64],
-    since: &mut [u64],
-    count: usize,
-    clip: u64,
-    place: u64,
-    now: u64,
-) -> io::Result<usize> {
-    if laid {
-        page::lay(out, page, clip, place, now)?;
-        tape_tracks::set(clips, count, clip);
-        tape_tracks::set(places, count, place);
-        tape_tracks::set(since, count, now);
-        return Ok(tape_tracks::next_place(count, place));
-    }
-    Ok(count)
-}
-
-fn hear_if(
-    page: Page,
-    peaks: &mut [u32],
-    samples: &[f32],
-    channels: usize,
-    each: usize,
-    stride: usize,
-    from: u64,
-    to: u64,
-) {
-    if page.draw {
-        waves::hear(page.total, peaks, samples, channels, each, stride, from, to);
-    }
-}
-
-// The first number: the next one of a fresh engine.
-fn first_if(kind: u8, s: Sequencer, number: u64) -> u64 {
-    if kind == 0 {
-        return s.next;
-    }
-    number
-}
-
-// What was played before the clock's 0: a reset sets the clock back.
-fn base_if(kind: u8, now: u64, base: u64) -> u64 {
-    if kind == 8 {
-        return now;
-    }
-    base
-}
-
-// What is held at the end stands so up to the end.
-fn finish<W: Write>(
-    out: &mut W,
-    page: Page,
-    clips: &[u64],
-    places: &[u64],
-    since: &[u64],
-    count: usize,
 ) -> io::Result<()> {
-    let mut i = 0;
-    while i < count {
-        page::segment(
-            out,
-            page,
-            tape_tracks::at(clips, i),
-            tape_tracks::at(places, i),
-            tape_tracks::at(since, i),
-            page.total,
-        )?;
-        i = i + 1;
+    let before = *tracks;
+    *tracks = Tracks::none();
+    for track in before.held() {
+        let place = standing::standing_of(s, track.clip);
+        let since = draw_move(out, page, *track, place, now)?;
+        tracks.hold(Track {
+            clip: track.clip,
+            place,
+            since,
+        });
     }
     Ok(())
 }
 
-fn stop_of(r: Read) -> u64 {
+// The first number: the next one of a fresh engine.
+fn first_of(kind: u8, s: Sequencer, number: u64) -> u64 {
+    if kind == 0 { s.next } else { number }
+}
+
+// What was played before the clock's 0: a reset sets the clock back.
+fn base_of(kind: u8, now: u64, base: u64) -> u64 {
+    if kind == 8 { now } else { base }
+}
+
+// What is held at the end stands so up to the end.
+fn finish<W: Write>(out: &mut W, page: Page, tracks: &Tracks) -> io::Result<()> {
+    for track in tracks.held() {
+        page::segment(out, page, *track, page.total)?;
+    }
+    Ok(())
+}
+
+fn stop_of(r: Read) -> Option<u64> {
     match r {
-        Read::Refused { kind: _, number: n } => n as u64,
-        _ => 0,
+        Read::Refused { kind: _, number } => Some(u64::from(number)),
+        _ => None,
     }
 }
 
-// The tape as far as it is played: the engine, the clips that are held, the accepted pushes, the first clip's number, what was played before the clock's 0, the last mark of the strip, and the last call's refusal.
+// The tape as far as it is played: the engine, the accepted pushes, the first clip's number, what was played before the clock's 0, the last mark of the strip, and the last call's refusal.
 #[derive(Clone, Copy)]
 struct Played {
     sequencer: Sequencer,
-    count: usize,
     pushes: u64,
     first: u64,
     base: u64,
     mark: LastMark,
-    refusal: u64,
+    refusal: Option<u64>,
 }
 
 fn unplayed() -> Played {
     Played {
         sequencer: apply::start(),
-        count: 0,
         pushes: 0,
         first: 1,
         base: 0,
         mark: LastMark { x: 0, row: 0 },
-        refusal: 0,
+        refusal: None,
     }
 }
 
@@ -193,24 +119,21 @@ fn unplayed() -> Played {
 fn end_of<W: Write>(
     out: &mut W,
     page: Page,
-    t: Played,
+    t: &Played,
     peaks: &[u32],
-    clips: &[u64],
-    places: &[u64],
-    since: &[u64],
-    stop: u64,
+    tracks: &Tracks,
+    stop: Option<u64>,
 ) -> io::Result<Page> {
-    let s = t.sequencer;
     if page.draw {
-        finish(out, page, clips, places, since, t.count)?;
-        page::close(out, page, s, peaks, t.pushes, stop)?;
+        finish(out, page, tracks)?;
+        page::close(out, page, t.sequencer.counts(), peaks, t.pushes, stop)?;
     }
     Ok(Page {
         draw: true,
-        total: chart::later(t.base, chart::micros(s.time)),
+        total: chart::later(t.base, chart::micros(t.sequencer.time)),
         lanes: t.pushes,
         first: t.first,
-        channels: s.outputs as u64,
+        channels: t.sequencer.outputs as u64,
     })
 }
 
@@ -218,56 +141,53 @@ fn end_of<W: Write>(
 fn play_record<W: Write>(
     out: &mut W,
     page: Page,
-    t: Played,
+    t: &mut Played,
     kind: u8,
     call: Call,
     pool: &[f32],
     samples: &mut [f32],
     peaks: &mut [u32],
-    clips: &mut [u64],
-    places: &mut [u64],
-    since: &mut [u64],
-) -> io::Result<Played> {
+    tracks: &mut Tracks,
+) -> io::Result<()> {
     let before = t.sequencer;
     let now = chart::later(t.base, chart::micros(before.time));
     let clip = before.next;
     let told = tape_tracks::answer_of(before, call);
     let a = apply::apply(before, call, pool, samples);
     let s = a.sequencer;
-    let refusal = a.refusal;
-    let base = base_if(kind, now, t.base);
-    let laid = both(refusal == 0, tape::reader::is_push(kind));
-    let place = tape_tracks::place_if(laid, s, clip);
-    let count = enter_if(
-        out, laid, page, clips, places, since, t.count, clip, place, now,
-    )?;
-    let last = t.mark;
-    let mark = page::mark(
-        out,
-        page,
-        last,
-        kind,
-        tape_tracks::edited(call),
-        refusal,
-        told,
-        now,
-    )?;
-    let moved = !tape_tracks::is_same(before.counts(), s.counts());
-    let count = follow(out, moved, page, s, clips, places, since, count, now)?;
-    let to = chart::later(base, chart::micros(s.time));
-    hear_if(page, peaks, samples, a.channels, a.each, a.stride, now, to);
-    Ok(Played {
-        sequencer: s,
-        count,
-        pushes: tape_tracks::one_more_if(laid, t.pushes),
-        first: first_if(kind, s, t.first),
-        base,
-        mark,
-        refusal,
-    })
+    let refusal = tape_tracks::refusal_of(a.refusal);
+    let base = base_of(kind, now, t.base);
+    let laid = tape_tracks::laid_at(refusal.is_none() && tape::reader::is_push(kind), s, clip);
+    if let Some(place) = laid {
+        let track = Track {
+            clip,
+            place,
+            since: now,
+        };
+        page::lay(out, page, track)?;
+        tracks.hold(track);
+    }
+    let edited = tape_tracks::edited(call).unwrap_or(0);
+    let mark = page::mark(out, page, t.mark, kind, edited, refusal, told, now)?;
+    if !tape_tracks::is_same(before.counts(), s.counts()) {
+        follow(out, page, s, tracks, now)?;
+    }
+    if page.draw {
+        let to = chart::later(base, chart::micros(s.time));
+        waves::hear(
+            page.total, peaks, samples, a.channels, a.each, a.stride, now, to,
+        );
+    }
+    t.sequencer = s;
+    t.pushes = tape_tracks::one_more_if(laid.is_some(), t.pushes);
+    t.first = first_of(kind, s, t.first);
+    t.base = base;
+    t.mark = mark;
+    t.refusal = refusal;
+    Ok(())
 }
 
-// Plays the tape. What it answers is the page to draw, of which `total`, `lanes`, `first` and `channels` are known at the end.
+// Plays the tape; `tracks` are the clips that are held. What it answers is the page to draw, of which `total`, `lanes`, `first` and `channels` are known at the end.
 fn play<E: Eprint, F: FileExt, W: Write>(
     rt: &E,
     out: &mut W,
@@ -276,9 +196,7 @@ fn play<E: Eprint, F: FileExt, W: Write>(
     pool: &[f32],
     samples: &mut [f32],
     peaks: &mut [u32],
-    clips: &mut [u64],
-    places: &mut [u64],
-    since: &mut [u64],
+    tracks: &mut Tracks,
 ) -> io::Result<Page> {
     let mut t = unplayed();
     let mut first = true;
@@ -286,16 +204,14 @@ fn play<E: Eprint, F: FileExt, W: Write>(
     for _ in 0..u64::MAX {
         let r = record(rt, file, at, first);
         let Read::Record { kind, call, next } = r else {
-            return end_of(out, page, t, peaks, clips, places, since, stop_of(r));
+            return end_of(out, page, &t, peaks, tracks, stop_of(r));
         };
-        t = play_record(
-            out, page, t, kind, call, pool, samples, peaks, clips, places, since,
-        )?;
-        if t.refusal == 1 {
-            return end_of(out, page, t, peaks, clips, places, since, 1);
+        play_record(out, page, &mut t, kind, call, pool, samples, peaks, tracks)?;
+        if t.refusal == Some(1) {
+            return end_of(out, page, &t, peaks, tracks, Some(1));
         }
         first = next.first;
-        at = std::num::wrapping_add_u64(at, next.at as u64);
+        at = at.wrapping_add(next.at as u64);
     }
     Ok(page)
 }
@@ -315,9 +231,7 @@ fn draw<E: Eprint, F: FileExt, W: Write>(
     pool: &[f32],
     samples: &mut [f32],
     peaks: &mut [u32],
-    clips: &mut [u64],
-    places: &mut [u64],
-    since: &mut [u64],
+    tracks: &mut Tracks,
 ) -> io::Result<()> {
     let blank = Page {
         draw: false,
@@ -326,13 +240,10 @@ fn draw<E: Eprint, F: FileExt, W: Write>(
         first: 1,
         channels: 1,
     };
-    let page = play(
-        rt, out, file, blank, pool, samples, peaks, clips, places, since,
-    )?;
+    let page = play(rt, out, file, blank, pool, samples, peaks, tracks)?;
     page::open(out, page, tape)?;
-    play(
-        rt, out, file, page, pool, samples, peaks, clips, places, since,
-    )?;
+    *tracks = Tracks::none();
+    play(rt, out, file, page, pool, samples, peaks, tracks)?;
     Ok(())
 }
 
@@ -350,9 +261,7 @@ fn draw_file<E: Eprint, F: FileExt, W: Write>(
     }
     let mut samples = apply::silence();
     let mut peaks = silent_peaks();
-    let mut clips = tape_tracks::row();
-    let mut places = tape_tracks::row();
-    let mut since = tape_tracks::row();
+    let mut tracks = Tracks::none();
     draw(
         rt,
         out,
@@ -361,9 +270,7 @@ fn draw_file<E: Eprint, F: FileExt, W: Write>(
         &pool[..count],
         &mut samples,
         &mut peaks,
-        &mut clips,
-        &mut places,
-        &mut since,
+        &mut tracks,
     )
 }
 
@@ -386,25 +293,24 @@ fn draw_named<E: Eprint, F: FileExt, W: Write>(
 fn main(rt: HostRuntime) -> io::Result<()> {
     let mut name = [0u8; 4096];
     let mut pool = vec![in rt.alloc(); 0.0f32; pool_file::ROOM]?;
-    let opened = tape_pages::open(
+    let Some(opened) = tape_pages::open(
         &rt,
         b"trail_sheet",
         b"Draws the tape TAPE as an SVG page on standard output.\n",
         &mut name,
         &mut pool[..],
-    );
-    if let Some(file) = &opened.file {
-        let mut out = BufWriter::new(rt.alloc(), rt.stdout())?;
-        draw_named(
-            &rt,
-            &mut out,
-            file,
-            &name,
-            opened.name,
-            &pool[..],
-            opened.count,
-        )?;
-        return out.flush();
-    }
-    Ok(())
+    ) else {
+        return Ok(());
+    };
+    let mut out = BufWriter::new(rt.alloc(), rt.stdout())?;
+    draw_named(
+        &rt,
+        &mut out,
+        &opened.file,
+        &name,
+        opened.name,
+        &pool[..],
+        opened.count,
+    )?;
+    out.flush()
 }

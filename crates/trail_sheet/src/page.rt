@@ -1,7 +1,9 @@
 // The page's elements, written as they come.
-use sequencer::{Answer, Sequencer};
+use sequencer::{Answer, Counts};
+use standing::Standing;
 use std::io;
 use std::io::Write;
+use tape_tracks::Track;
 
 // What a page is drawn by: whether this is the time to draw, how long the tape plays, how many clips were laid and from which number on, and how many channels.
 #[derive(Clone, Copy)]
@@ -28,10 +30,6 @@ pub(crate) fn say<W: Write>(out: &mut W, text: &[u8], n: usize) -> io::Result<()
     out.write_all(&text[..n])
 }
 
-fn plus(a: u64, b: u64) -> u64 {
-    std::num::wrapping_add_u64(a, b)
-}
-
 // ---- lanes
 
 fn axis_mark<W: Write>(
@@ -51,41 +49,34 @@ fn axis_mark<W: Write>(
 fn axis<W: Write>(out: &mut W, page: Page, top: u64, height: u64) -> io::Result<()> {
     let step = chart::step(page.total);
     let mut t: u64 = 0;
-    let mut left: u64 = 20;
-    while left > 0 {
-        left = left - 1;
+    for _ in 0..20 {
         if page.total < t {
             return Ok(());
         }
         axis_mark(out, page, t, step, top, height)?;
-        t = plus(t, step);
+        t = t.wrapping_add(step);
     }
     Ok(())
 }
 
 // An axis for each group of 64 lanes.
 fn axes<W: Write>(out: &mut W, page: Page) -> io::Result<()> {
-    let mut i: u64 = 0;
-    let mut left = page.lanes / 64;
-    while left > 0 {
-        left = left - 1;
-        axis(out, page, chart::lane(i), 1024)?;
-        i = plus(i, 64);
+    let groups = page.lanes / 64;
+    for group in 0..groups {
+        axis(out, page, chart::lane(group * 64), 1024)?;
     }
     let rest = page.lanes % 64;
     if rest != 0 || page.lanes == 0 {
-        axis(out, page, chart::lane(i), plus(rest * 16, 4))?;
+        axis(out, page, chart::lane(groups * 64), rest * 16 + 4)?;
     }
     Ok(())
 }
 
-// A clip's standing from a time to another.
+// A clip's standing up to a time.
 pub(crate) fn segment<W: Write>(
     out: &mut W,
     page: Page,
-    clip: u64,
-    place: u64,
-    from: u64,
+    track: Track,
     until: u64,
 ) -> io::Result<()> {
     if !page.draw {
@@ -93,24 +84,33 @@ pub(crate) fn segment<W: Write>(
     }
     let mut text = [0u8; 4096];
     let n = tape_sheet::put_segment(
-        page.total, page.first, clip, place, from, until, &mut text, 0,
+        page.total,
+        page.first,
+        track.clip,
+        track.place,
+        track.since,
+        until,
+        &mut text,
+        0,
     );
     say(out, &text, n)
 }
 
 // A lane's line, its number, and a mark where the clip was laid.
-pub(crate) fn lay<W: Write>(
-    out: &mut W,
-    page: Page,
-    clip: u64,
-    place: u64,
-    now: u64,
-) -> io::Result<()> {
+pub(crate) fn lay<W: Write>(out: &mut W, page: Page, track: Track) -> io::Result<()> {
     if !page.draw {
         return Ok(());
     }
     let mut text = [0u8; 4096];
-    let n = tape_sheet::put_lane(page.total, page.first, clip, place, now, &mut text, 0);
+    let n = tape_sheet::put_lane(
+        page.total,
+        page.first,
+        track.clip,
+        track.place,
+        track.since,
+        &mut text,
+        0,
+    );
     say(out, &text, n)
 }
 
@@ -118,13 +118,12 @@ pub(crate) fn lay<W: Write>(
 
 // The place of the next mark: beside the last one, or a row below it.
 fn mark_at(m: LastMark, x: u64) -> LastMark {
-    if plus(m.x, 34) <= x {
-        return LastMark { x, row: 0 };
-    }
-    LastMark {
-        x,
-        row: plus(m.row, 1) % 8,
-    }
+    let row = if m.x.wrapping_add(34) <= x {
+        0
+    } else {
+        m.row.wrapping_add(1) % 8
+    };
+    LastMark { x, row }
 }
 
 fn mark_refusal<W: Write>(
@@ -154,7 +153,7 @@ fn mark_edit<W: Write>(
     let mut text = [0u8; 4096];
     let n = tape_sheet::put_edited(page.total, row, kind, clip, told, now, &mut text, 0);
     say(out, &text, n)?;
-    if std::num::wrapping_sub_u64(clip, page.first) < page.lanes {
+    if clip.wrapping_sub(page.first) < page.lanes {
         mark_lane(out, page, kind, clip, told, now)?;
     }
     Ok(())
@@ -182,43 +181,37 @@ fn mark_call<W: Write>(out: &mut W, page: Page, row: u64, kind: u8, now: u64) ->
     say(out, &text, n)
 }
 
+// A mark of a call that has one, and the place of the last mark.
 pub(crate) fn mark<W: Write>(
     out: &mut W,
     page: Page,
     m: LastMark,
     kind: u8,
     clip: u64,
-    refusal: u64,
+    refusal: Option<u64>,
     told: Answer,
     now: u64,
 ) -> io::Result<LastMark> {
+    if refusal.is_none() && !matches!(kind, 4 | 5 | 8 | 9) {
+        return Ok(m);
+    }
     let next = mark_at(m, chart::x(now, page.total));
-    if refusal != 0 {
-        if page.draw {
-            mark_refusal(out, page, next.row, kind, clip, refusal, now)?;
-        }
+    if !page.draw {
         return Ok(next);
     }
-    match kind {
-        4 | 5 => {
-            if page.draw {
-                mark_edit(out, page, next.row, kind, clip, told, now)?;
-            }
-            Ok(next)
-        }
-        8 | 9 => {
-            if page.draw {
-                mark_call(out, page, next.row, kind, now)?;
-            }
-            Ok(next)
-        }
-        _ => Ok(m),
+    if let Some(number) = refusal {
+        mark_refusal(out, page, next.row, kind, clip, number, now)?;
+    } else if matches!(kind, 4 | 5) {
+        mark_edit(out, page, next.row, kind, clip, told, now)?;
+    } else {
+        mark_call(out, page, next.row, kind, now)?;
     }
+    Ok(next)
 }
 
 // ---- the page
 
-fn swatch<W: Write>(out: &mut W, place: u64, x: u32) -> io::Result<()> {
+fn swatch<W: Write>(out: &mut W, place: Standing, x: u32) -> io::Result<()> {
     let mut text = [0u8; 4096];
     let n = tape_sheet::put_swatch(place, x, &mut text, 0);
     say(out, &text, n)
@@ -250,10 +243,8 @@ fn plain(b: u8) -> u8 {
 
 // The tape's name, as it can stand in a page.
 fn name<W: Write>(out: &mut W, tape: &[u8]) -> io::Result<()> {
-    let mut i = 0;
-    while i < tape.len() {
-        out.write_all(&[plain(tape[i])])?;
-        i = i + 1;
+    for b in tape {
+        out.write_all(&[plain(*b)])?;
     }
     Ok(())
 }
@@ -277,19 +268,19 @@ pub(crate) fn open<W: Write>(out: &mut W, page: Page, tape: &[u8]) -> io::Result
     name(out, tape)?;
     out.write_all(b"</text>\n")?;
     measures(out, page)?;
-    swatch(out, 0, 170)?;
-    swatch(out, 1, 280)?;
-    swatch(out, 2, 390)?;
-    swatch(out, 3, 500)?;
+    swatch(out, Standing::Waiting, 170)?;
+    swatch(out, Standing::Sounding, 280)?;
+    swatch(out, Standing::Finished, 390)?;
+    swatch(out, Standing::LetGo, 500)?;
     out.write_all(
         b"<text class=\"k\" x=\"600\" y=\"51\">a triangle in front of a bar: laid; above it: edited; a number on dark: a refused call, by its refusal; black wave: above 1.0</text>\n<text class=\"n\" x=\"162\" y=\"80\">calls</text>\n",
     )?;
     axes(out, page)
 }
 
-fn foot<W: Write>(out: &mut W, page: Page, s: Sequencer, pushes: u64) -> io::Result<()> {
+fn foot<W: Write>(out: &mut W, page: Page, counts: Counts, pushes: u64) -> io::Result<()> {
     let mut text = [0u8; 4096];
-    let n = tape_sheet::put_foot(page.lanes, page.channels, pushes, s.counts(), &mut text, 0);
+    let n = tape_sheet::put_foot(page.lanes, page.channels, pushes, counts, &mut text, 0);
     say(out, &text, n)
 }
 
@@ -297,13 +288,13 @@ fn foot<W: Write>(out: &mut W, page: Page, s: Sequencer, pushes: u64) -> io::Res
 pub(crate) fn close<W: Write>(
     out: &mut W,
     page: Page,
-    s: Sequencer,
+    counts: Counts,
     peaks: &[u32],
     pushes: u64,
-    stop: u64,
+    stop: Option<u64>,
 ) -> io::Result<()> {
     crate::waves::draw(out, page.lanes, page.channels, peaks)?;
-    foot(out, page, s, pushes)?;
+    foot(out, page, counts, pushes)?;
     let mut text = [0u8; 4096];
     let n = tape_sheet::put_stop(page.lanes, page.channels, stop, &mut text, 0);
     say(out, &text, n)?;

@@ -2,11 +2,9 @@
 use crate::page::say;
 use std::io;
 use std::io::Write;
-use tape_pages::larger;
 
-fn plus(a: u64, b: u64) -> u64 {
-    std::num::wrapping_add_u64(a, b)
-}
+// The columns of a channel: its peaks stand in a row, one channel's behind the other's.
+const COLUMNS: usize = 1401;
 
 fn magnitude(samples: &[f32], i: usize) -> u32 {
     if i < samples.len() {
@@ -17,21 +15,14 @@ fn magnitude(samples: &[f32], i: usize) -> u32 {
 
 fn raise(peaks: &mut [u32], i: usize, bits: u32) {
     if i < peaks.len() {
-        peaks[i] = larger(peaks[i], bits);
+        peaks[i] = peaks[i].max(bits);
     }
 }
 
-// Channel c's peaks begin at row 1401 c: a word for each column.
-fn heard(peaks: &mut [u32], row: u64, from: u64, to: u64, bits: u32) {
-    let mut column = from;
-    let mut left: u64 = 1401;
-    while left > 0 {
-        left = left - 1;
-        raise(peaks, plus(row, column) as usize, bits);
-        column = plus(column, 1);
-        if to <= column {
-            return;
-        }
+// Raises the columns from `from` up to `to`, one at least.
+fn heard(peaks: &mut [u32], row: usize, from: u64, to: u64, bits: u32) {
+    for column in from..to.max(from.saturating_add(1)) {
+        raise(peaks, row.wrapping_add(column as usize), bits);
     }
 }
 
@@ -45,14 +36,12 @@ fn hear_one(
     from: u64,
     to: u64,
 ) {
-    let mut left = channels;
     let mut i = k;
-    let mut row: u64 = 0;
-    while left > 0 {
-        left = left - 1;
+    let mut row: usize = 0;
+    for _ in 0..channels {
         heard(peaks, row, from, to, magnitude(samples, i));
-        i = std::num::wrapping_add_usize(i, stride);
-        row = plus(row, 1401);
+        i = i.wrapping_add(stride);
+        row = row.wrapping_add(COLUMNS);
     }
 }
 
@@ -67,21 +56,12 @@ pub(crate) fn hear(
     from: u64,
     to: u64,
 ) {
-    let mut k: usize = 0;
-    while k < each {
-        let a = chart::column(chart::between(from, to, k as u64, each as u64), total);
-        let b = chart::column(
-            chart::between(from, to, plus(k as u64, 1), each as u64),
-            total,
-        );
+    for k in 0..each {
+        let n = k as u64;
+        let a = chart::column(chart::between(from, to, n, each as u64), total);
+        let b = chart::column(chart::between(from, to, n + 1, each as u64), total);
         hear_one(peaks, samples, channels, k, stride, a, b);
-        k = k + 1;
     }
-}
-
-fn peak_at(peaks: &[u32], row: u64, column: u64) -> u32 {
-    let i = plus(row, column) as usize;
-    if i < peaks.len() { peaks[i] } else { 0 }
 }
 
 fn bar<W: Write>(out: &mut W, bits: u32, column: u32, middle: u64) -> io::Result<()> {
@@ -91,54 +71,27 @@ fn bar<W: Write>(out: &mut W, bits: u32, column: u32, middle: u64) -> io::Result
 }
 
 // A channel's peaks as bars; with `loud` only those above 1.0, which are drawn once more, in black.
-fn bars<W: Write>(out: &mut W, peaks: &[u32], row: u64, middle: u64, loud: bool) -> io::Result<()> {
-    let mut column: u32 = 0;
-    while column < 1401 {
-        bar(
-            out,
-            shown(peak_at(peaks, row, column as u64), loud),
-            column,
-            middle,
-        )?;
-        column = column + 1;
+fn bars<W: Write>(out: &mut W, peaks: &[u32], middle: u64, loud: bool) -> io::Result<()> {
+    for (column, bits) in peaks.iter().enumerate() {
+        if !loud || 0x3f80_0000 < *bits {
+            bar(out, *bits, u32::try_from(column).unwrap_or(0), middle)?;
+        }
     }
     Ok(())
 }
 
-// A peak that is drawn; 0 where it is not.
-fn shown(bits: u32, loud: bool) -> u32 {
-    if loud {
-        if bits <= 0x3f80_0000 {
-            return 0;
-        }
-    }
-    bits
+fn loudest_of(peaks: &[u32]) -> u32 {
+    peaks.iter().copied().max().unwrap_or(0)
 }
 
-fn loudest_of(peaks: &[u32], row: u64) -> u32 {
-    let mut most = 0;
-    let mut column: u64 = 0;
-    while column < 1401 {
-        most = larger(most, peak_at(peaks, row, column));
-        column = column + 1;
-    }
-    most
-}
-
-fn wave<W: Write>(
-    out: &mut W,
-    lanes: u64,
-    peaks: &[u32],
-    channel: u32,
-    row: u64,
-) -> io::Result<()> {
+fn wave<W: Write>(out: &mut W, lanes: u64, channel: u32, peaks: &[u32]) -> io::Result<()> {
     let mut text = [0u8; 4096];
-    let n = tape_sheet::put_wave(lanes, channel, loudest_of(peaks, row), &mut text, 0);
+    let n = tape_sheet::put_wave(lanes, channel, loudest_of(peaks), &mut text, 0);
     say(out, &text, n)?;
-    let middle = chart::wave(lanes, channel as u64) + 40;
-    bars(out, peaks, row, middle, false)?;
+    let middle = chart::wave(lanes, u64::from(channel)) + 40;
+    bars(out, peaks, middle, false)?;
     write!(out, "\"/><path class=\"o\" d=\"M170 {middle}")?;
-    bars(out, peaks, row, middle, true)?;
+    bars(out, peaks, middle, true)?;
     out.write_all(b"\"/>\n")
 }
 
@@ -149,15 +102,11 @@ pub(crate) fn draw<W: Write>(
     channels: u64,
     peaks: &[u32],
 ) -> io::Result<()> {
-    let mut c: u32 = 0;
-    let mut row: u64 = 0;
-    while c < 8 {
-        if channels <= c as u64 {
+    for (channel, row) in peaks.chunks_exact(COLUMNS).enumerate() {
+        if channels <= channel as u64 {
             return Ok(());
         }
-        wave(out, lanes, peaks, c, row)?;
-        c = c + 1;
-        row = plus(row, 1401);
+        wave(out, lanes, u32::try_from(channel).unwrap_or(0), row)?;
     }
     Ok(())
 }

@@ -4,89 +4,68 @@
 
 mod say;
 
+use apply::Applied;
 use say::{Ending, Heard};
 use std::fs::File;
 use std::io;
 use std::io::{IsTerminal, Write};
 use std::os::unix::fs::FileExt;
 use std::rt::Files;
-use tape::reader::{Cursor, Read};
+use tape::reader::{Call, Cursor, Read};
 
 // ---- what is heard
 
 // The greatest magnitude of what was heard, channel by channel.
 fn loudest(samples: &[f32], channels: usize, each: usize, stride: usize, before: u32) -> u32 {
     let mut most = before;
-    let mut left = channels;
     let mut from: usize = 0;
-    while left > 0 {
-        if samples.len() <= from {
-            return most;
-        }
-        if samples.len() - from < each {
-            return most;
-        }
-        if samples.len() - from < stride {
+    for _ in 0..channels {
+        if samples.len() <= from || samples.len() - from < each || samples.len() - from < stride {
             return most;
         }
         most = wav::frames::loudest(&samples[from..from + each], most);
-        from = from + stride;
-        left = left - 1;
+        from += stride;
     }
     most
 }
 
 // What is heard with `each` more frames at that rate, or what ends it.
-fn hear(heard: Heard, each: usize, rate: f64, most: u32) -> Heard {
+fn hear(heard: Heard, each: usize, rate: f64, most: u32) -> Result<Heard, Ending> {
     if each == 0 {
-        return heard;
+        return Ok(heard);
     }
-    let whole = wav::header::whole_rate(rate);
-    if whole == 0 {
-        return heard.ended(Ending::NoWholeRate(rate));
-    }
-    let frames = heard.frames;
-    if frames != 0 {
-        if heard.rate != whole {
-            return heard.ended(Ending::OtherRate(rate));
-        }
+    let Some(whole) = wav::header::whole_rate(rate) else {
+        return Err(Ending::NoWholeRate(rate));
+    };
+    if heard.frames != 0 && heard.rate != whole {
+        return Err(Ending::OtherRate(rate));
     }
     if 64 < each {
-        return heard.ended(Ending::Full);
+        return Err(Ending::Full);
     }
-    if 0xFFFF_FFFF - frames < each as u32 {
-        return heard.ended(Ending::Full);
-    }
-    Heard {
-        frames: frames + each as u32,
+    let Some(frames) = heard.frames.checked_add(each as u32) else {
+        return Err(Ending::Full);
+    };
+    Ok(Heard {
+        frames,
         rate: whole,
         most,
-        ending: Ending::No,
-    }
-}
-
-fn goes_on(heard: Heard) -> bool {
-    let ending = heard.ending;
-    if let Ending::No = ending { true } else { false }
+    })
 }
 
 // ---- the data
 
 // Writes the first `used` bytes of `data`.
-fn write_out<W: Write>(to: &mut W, data: &[u8], used: usize) -> bool {
-    if data.len() < used {
-        return false;
+fn write_out<W: Write>(to: &mut W, data: &[u8], used: usize) -> Result<(), Ending> {
+    if data.len() < used || to.write_all(&data[..used]).is_err() {
+        return Err(Ending::Unwritten);
     }
-    to.write_all(&data[..used]).is_ok()
+    Ok(())
 }
 
 // Whether the data has no room for a block of 8 channels.
 fn is_full(data: &[u8], used: usize) -> bool {
-    if data.len() < used {
-        true
-    } else {
-        data.len() - used < 2048
-    }
+    data.len() < used || data.len() - used < 2048
 }
 
 // Puts the frames of an accepted tick or block behind what is in use, and answers how much is in use then.
@@ -109,27 +88,29 @@ fn add(
     }
 }
 
-// What a record that was not read ends the tape by.
-fn ending_of(r: Read, failed: bool) -> Ending {
-    match r {
-        Read::Refused { kind: _, number } => {
-            if failed {
-                Ending::Unread
-            } else {
-                Ending::Refusal(number as u64)
-            }
-        }
-        Read::End => { if failed { Ending::Unread } else { Ending::Tape } }
+// The next record's call, and the cursor behind it, or what ends the tape; `failed`: it cannot be read on.
+fn next_call(c: Cursor, bytes: &[u8], failed: bool) -> Result<(Call, Cursor), Ending> {
+    match c.read(bytes) {
         Read::Record {
             kind: _,
-            call: _,
-            next: _,
-        } => Ending::No,
+            call,
+            next,
+        } => Ok((call, next)),
+        Read::Refused { kind: _, number } => {
+            if failed {
+                Err(Ending::Unread)
+            } else {
+                Err(Ending::Refusal(u64::from(number)))
+            }
+        }
+        Read::End => {
+            if failed {
+                Err(Ending::Unread)
+            } else {
+                Err(Ending::Tape)
+            }
+        }
     }
-}
-
-fn small(channels: usize) -> u8 {
-    if channels <= 8 { channels as u8 } else { 8 }
 }
 
 // Whether the header was put in its place.
@@ -140,28 +121,62 @@ fn put_header<F: FileExt>(to: &F, header: &[u8]) -> bool {
     }
 }
 
+// The tape as far as it is played: what was heard, and how much of it stands in the data that is not written yet.
+// The engine is not in it, since it would be copied once more for each record.
+#[derive(Clone, Copy)]
+struct Rolled {
+    heard: Heard,
+    used: usize,
+}
+
 // Puts the header in its place, and says what was written. `terminal`: standard error is one.
 fn finish<R: Print + Eprint, F: Write + FileExt>(
     rt: &R,
     terminal: bool,
     to: &mut F,
     data: &[u8],
-    used: usize,
-    heard: Heard,
+    t: &Rolled,
     outputs: usize,
+    ending: Ending,
 ) {
-    let channels = small(outputs);
-    let mut h = heard;
-    if !write_out(to, data, used) {
-        h = heard.ended(Ending::Unwritten);
-    }
-    if !put_header(to, &wav::header::header(channels, h.rate, h.frames)) {
+    let channels = outputs.min(8) as u8;
+    let heard = t.heard;
+    let ending = match write_out(to, data, t.used) {
+        Ok(()) => ending,
+        Err(unwritten) => unwritten,
+    };
+    if !put_header(to, &wav::header::header(channels, heard.rate, heard.frames)) {
         streams::say(
             rt,
             b"trail_wav: the output cannot be sought: its header says 0 frames\n",
         );
     }
-    say::summary(rt, terminal, h, channels);
+    say::summary(rt, terminal, heard, ending, channels);
+}
+
+// What is heard of a record stands in the data, which is written where it is full.
+fn add_record<R: Print + Eprint, F: Write + FileExt>(
+    rt: &R,
+    terminal: bool,
+    to: &mut F,
+    a: &Applied,
+    samples: &[f32],
+    data: &mut [u8],
+    t: &mut Rolled,
+) -> Result<(), Ending> {
+    if a.refusal == 1 {
+        return Err(Ending::Refusal(1));
+    }
+    let most = loudest(samples, a.channels, a.each, a.stride, t.heard.most);
+    t.heard = hear(t.heard, a.each, a.sequencer.sample_rate, most)?;
+    if is_full(data, t.used) {
+        let used = t.used;
+        t.used = 0;
+        write_out(to, data, used)?;
+        say::progress(rt, terminal, t.heard.frames);
+    }
+    t.used = add(samples, a.channels, a.each, a.stride, data, t.used);
+    Ok(())
 }
 
 // Plays the tape `from` into the WAV `to`.
@@ -176,107 +191,50 @@ fn roll<R: Print + Eprint, I: io::Read, F: Write + FileExt>(
     let mut data = [0u8; 65536];
     let mut samples = apply::silence();
     let mut s = apply::start();
-    let mut heard = Heard {
-        frames: 0,
-        rate: 44100,
-        most: 0,
-        ending: Ending::No,
+    let mut t = Rolled {
+        heard: say::nothing(),
+        used: 0,
     };
-    let mut first = true;
-    let mut at: usize = 0;
+    let mut c = Cursor { at: 0, first: true };
     let mut have: usize = 0;
-    let mut used: usize = 0;
     let mut whole = false;
     let mut failed = false;
     for _ in 0..u64::MAX {
-        if whole || tape_input::enough(at, have) {
-            let c = Cursor { at, first };
-            let r = c.read(&buf[..have]);
-            let Read::Record {
-                kind: _,
-                call,
-                next,
-            } = r
-            else {
-                finish(
-                    rt,
-                    terminal,
-                    to,
-                    &data,
-                    used,
-                    heard.ended(ending_of(r, failed)),
-                    s.outputs,
-                );
-                return;
-            };
-            let a = apply::apply(s, call, pool, &mut samples);
-            s = a.sequencer;
-            if a.refusal == 1 {
-                finish(
-                    rt,
-                    terminal,
-                    to,
-                    &data,
-                    used,
-                    heard.ended(Ending::Refusal(1)),
-                    s.outputs,
-                );
-                return;
-            }
-            let most = loudest(&samples, a.channels, a.each, a.stride, heard.most);
-            heard = hear(heard, a.each, s.sample_rate, most);
-            if !goes_on(heard) {
-                finish(rt, terminal, to, &data, used, heard, s.outputs);
-                return;
-            }
-            if is_full(&data, used) {
-                if !write_out(to, &data, used) {
-                    finish(
-                        rt,
-                        terminal,
-                        to,
-                        &data,
-                        0,
-                        heard.ended(Ending::Unwritten),
-                        s.outputs,
-                    );
+        if whole || tape_input::enough(c.at, have) {
+            match next_call(c, &buf[..have], failed) {
+                Ok((call, next)) => {
+                    let a = apply::apply(s, call, pool, &mut samples);
+                    s = a.sequencer;
+                    let added = add_record(rt, terminal, to, &a, &samples, &mut data, &mut t);
+                    if let Err(ending) = added {
+                        finish(rt, terminal, to, &data, &t, s.outputs, ending);
+                        return;
+                    }
+                    c = next;
+                }
+                Err(ending) => {
+                    finish(rt, terminal, to, &data, &t, s.outputs, ending);
                     return;
                 }
-                say::progress(rt, terminal, heard.frames);
-                used = 0;
             }
-            used = add(&samples, a.channels, a.each, a.stride, &mut data, used);
-            first = next.first;
-            at = next.at;
         } else {
-            have = tape_input::shift(&mut buf, at, have);
-            at = 0;
-            let came = tape_input::read_on(from, &mut buf, have);
-            whole = came.count == 0;
-            failed = came.failed;
-            have = have + came.count;
+            have = tape_input::shift(&mut buf, c.at, have);
+            c.at = 0;
+            match tape_input::read_on(from, &mut buf, have) {
+                Ok(count) => {
+                    whole = count == 0;
+                    have += count;
+                }
+                Err(_) => {
+                    whole = true;
+                    failed = true;
+                }
+            }
         }
     }
 }
 
 // ---- arguments
-
-fn same(a: &[u8], b: &[u8]) -> bool {
-    if a.len() != b.len() {
-        return false;
-    }
-    let mut i: usize = 0;
-    while i < a.len() {
-        if b.len() <= i {
-            return false;
-        }
-        if a[i] != b[i] {
-            return false;
-        }
-        i = i + 1;
-    }
-    true
-}
 
 // Opens the output, with a header of no frames, and plays the tape into it.
 fn play<R: Files<File = File> + Print + Eprint + Alloc, I: io::Read>(
@@ -318,40 +276,32 @@ fn play_with_pool<R: Files<File = File> + Print + Eprint + Alloc, I: io::Read>(
         streams::say(rt, b"trail_wav: no memory for the pool\n");
         return;
     };
-    let loaded = pool_file::load(rt, path, &mut pool[..]);
-    if !loaded.good {
-        return;
-    }
-    let n = loaded.count;
-    if n <= pool.len() {
+    if let Some(n) = pool_file::load(rt, path, &mut pool[..]) {
         play(rt, terminal, from, out, &pool[..n]);
     }
 }
 
+// `path`: the file of a pool of one's own.
 fn open<R: Files<File = File> + Print + Eprint + Alloc>(
     rt: &R,
     terminal: bool,
     tape: &[u8],
     out: &[u8],
-    path: &[u8],
-    own: bool,
+    path: Option<&[u8]>,
 ) {
-    if same(tape, out) {
+    if tape == out {
         streams::say(rt, b"trail_wav: the output is the tape itself\n");
         return;
     }
-    if own && same(path, out) {
+    if path == Some(out) {
         streams::say(rt, b"trail_wav: the output is the pool itself\n");
         return;
     }
     match streams::open(rt, tape) {
-        Ok(mut from) => {
-            if own {
-                play_with_pool(rt, terminal, &mut from, out, path);
-            } else {
-                play_with_trail_pool(rt, terminal, &mut from, out);
-            }
-        }
+        Ok(mut from) => match path {
+            Some(path) => play_with_pool(rt, terminal, &mut from, out, path),
+            None => play_with_trail_pool(rt, terminal, &mut from, out),
+        },
         Err(error) => streams::fail(rt, tape, &error),
     }
 }
@@ -366,20 +316,12 @@ fn choose<R: Files<File = File> + Print + Eprint + Alloc>(
     a: &[u8],
     b: &[u8],
 ) {
-    let named = pool_file::is_option(a);
-    if count == 3 {
-        open(rt, terminal, tape, out, a, false);
-        return;
+    match (count, pool_file::is_option(a)) {
+        (3, _) => open(rt, terminal, tape, out, None),
+        (4, false) => open(rt, terminal, tape, out, Some(a)),
+        (5, true) => open(rt, terminal, tape, out, Some(b)),
+        _ => say::usage(rt),
     }
-    if count == 4 && !named {
-        open(rt, terminal, tape, out, a, true);
-        return;
-    }
-    if count == 5 && named {
-        open(rt, terminal, tape, out, b, true);
-        return;
-    }
-    say::usage(rt);
 }
 
 fn main(rt: HostRuntime) {

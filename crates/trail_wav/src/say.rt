@@ -2,9 +2,9 @@
 use std::fmt;
 use std::fmt::{Display, Formatter};
 
+// What ends the WAV.
 #[derive(Clone, Copy)]
 pub(crate) enum Ending {
-    No,
     Tape,
     Refusal(u64),
     OtherRate(f64),
@@ -14,23 +14,19 @@ pub(crate) enum Ending {
     Unwritten,
 }
 
-// The frames written and their rate, the greatest magnitude among them, and what ends the WAV.
+// The frames written and their rate, and the greatest magnitude among them.
 #[derive(Clone, Copy)]
 pub(crate) struct Heard {
     pub(crate) frames: u32,
     pub(crate) rate: u32,
     pub(crate) most: u32,
-    pub(crate) ending: Ending,
 }
 
-impl Heard {
-    pub(crate) fn ended(self, ending: Ending) -> Heard {
-        Heard {
-            frames: self.frames,
-            rate: self.rate,
-            most: self.most,
-            ending,
-        }
+pub(crate) fn nothing() -> Heard {
+    Heard {
+        frames: 0,
+        rate: 44100,
+        most: 0,
     }
 }
 
@@ -89,7 +85,6 @@ impl Display for Peak {
 impl Display for Ending {
     fn fmt<W: fmt::Write>(&self, f: &mut Formatter<W>) -> fmt::Result {
         match *self {
-            Ending::No => Ok(()),
             Ending::Tape => f.write_str("the end of the tape"),
             Ending::Refusal(n) => write!(f, "refusal {n}"),
             Ending::OtherRate(rate) => {
@@ -115,26 +110,17 @@ impl Display for Ending {
     }
 }
 
-// Whether the whole tape was played.
-fn is_whole(ending: Ending) -> bool {
-    match ending {
-        Ending::Tape => true,
-        Ending::No => false,
-        Ending::Refusal(_) => false,
-        Ending::OtherRate(_) => false,
-        Ending::NoWholeRate(_) => false,
-        Ending::Full => false,
-        Ending::Unread => false,
-        Ending::Unwritten => false,
-    }
-}
-
 // The line at the end, on standard output, and on standard error what cut the tape short.
-pub(crate) fn summary<R: Print + Eprint>(rt: &R, terminal: bool, heard: Heard, channels: u8) {
+pub(crate) fn summary<R: Print + Eprint>(
+    rt: &R,
+    terminal: bool,
+    heard: Heard,
+    ending: Ending,
+    channels: u8,
+) {
     if terminal {
         streams::say(rt, b"\r");
     }
-    let ending = heard.ending;
     let rate = heard.rate;
     let frames = heard.frames;
     let peak = Peak(heard.most);
@@ -142,7 +128,7 @@ pub(crate) fn summary<R: Print + Eprint>(rt: &R, terminal: bool, heard: Heard, c
     let _ = println!(rt;
         "{channels} {unit}, {rate} Hz, {frames} frames, peak {peak}, ended by {ending}"
     );
-    if !is_whole(ending) {
+    if !matches!(ending, Ending::Tape) {
         let _ = eprintln!(rt; "trail_wav: the tape was cut short by {ending}");
     }
 }

@@ -1,5 +1,5 @@
 -- The header's fields put down one behind the other are its bytes. Assumes nothing.
-use Rattle.std.proofs.Common.{◌≡◌, ℕ, ◌*◌, ◌<◌, ◌≤◌, Bool, true, false, List, length, replicate, pos, refl, mul-le-mul, arith, le-ltb, lt-ltb}
+use Rattle.std.proofs.Common.{◌≡◌, ℕ, ◌*◌, ◌<◌, ◌≤◌, Bool, true, false, List, None, Some, length, replicate, pos, refl, mul-le-mul, arith, eq-eqb, ne_eqb, le-ltb, lt-ltb}
 use lib.Ieee.{Float, binary64, of_int, eq}
 use lib.Seq.{sets}
 use Rattle.little_endian.specs.LowBytes.{little_endian}
@@ -28,15 +28,20 @@ product a b h k =
 
 -- ---- a whole rate
 module _ (x : Float) (n : ℕ) (e : n ≡ index x) where
-  pub rate-cut : 4294967295 < n → 0 ≡ whole_rate x
+  pub rate-zero : n ≡ 0 → None ≡ whole_rate x
   unfolding whole_rate
-  rate-cut h = rw (← e, lt-ltb 4294967295 n h)
+  rate-zero z = rw (← e, eq-eqb n 0 z)
 
-  module _ (h : n ≤ 4294967295) (f : Float) (g : f ≡ of_int binary64 (pos n)) where
-    pub rate-whole : eq f x ≡ true → n ≡ whole_rate x
+  module _ (some : n ≡ 0 → ⊥) where
+    pub rate-cut : 4294967295 < n → None ≡ whole_rate x
     unfolding whole_rate
-    rate-whole t = rw (← e, le-ltb 4294967295 n h, whole_is n, ← g, t)
+    rate-cut h = rw (← e, ne_eqb n 0 some, lt-ltb 4294967295 n h)
 
-    pub rate-other : eq f x ≡ false → 0 ≡ whole_rate x
-    unfolding whole_rate
-    rate-other t = rw (← e, le-ltb 4294967295 n h, whole_is n, ← g, t)
+    module _ (h : n ≤ 4294967295) (f : Float) (g : f ≡ of_int binary64 (pos n)) where
+      pub rate-whole : eq f x ≡ true → Some n ≡ whole_rate x
+      unfolding whole_rate
+      rate-whole t = rw (← e, ne_eqb n 0 some, le-ltb 4294967295 n h, whole_is n, ← g, t)
+
+      pub rate-other : eq f x ≡ false → None ≡ whole_rate x
+      unfolding whole_rate
+      rate-other t = rw (← e, ne_eqb n 0 some, le-ltb 4294967295 n h, whole_is n, ← g, t)

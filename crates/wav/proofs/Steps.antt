@@ -1,5 +1,5 @@
 -- One turn of each loop that puts frames. Assumes nothing.
-use Rattle.std.proofs.Common.{◌≡◌, ℕ, zero, suc, ◌+◌, ◌-◌, ◌*◌, ◌/◌, ◌%◌, ◌<◌, ◌≤◌, max, Bool, true, false, cond, ltb, List, [], ◌∷◌, ◌++◌, map, length, get_or, drop, sym, refl, ap, ◌∙◌, subst, mul-le-mul_right, div-lt_iff_lt-mul, div-add-mod', arith, drop_of_length-le, get_or-drop, drop-cons, drop-drop, le-ltb, lt-ltb}
+use Rattle.std.proofs.Common.{◌≡◌, ℕ, zero, suc, ◌+◌, ◌-◌, ◌*◌, ◌/◌, ◌%◌, ◌<◌, ◌≤◌, max, Bool, true, false, cond, ltb, List, [], ◌++◌, map, length, get_or, drop, sym, refl, ap, ◌∙◌, subst, mul-le-mul_right, div-lt_iff_lt-mul, div-add-mod', arith, drop_of_length-le, get_or-drop, drop-cons, drop-drop, le-ltb, lt-ltb}
 use lib.Ieee.{Float, nan, binary32, to_bits}
 use lib.Seq.{sets}
 use Rattle.listing.specs.Pieces.{text, add}
@@ -55,9 +55,27 @@ module _ (xs : List Float) (channels stride place : ℕ) (out₀ : List ℕ) (at
         room = omega arith;
       }
 
+  -- by the count of the channels that are put
+  pub first_channel : place < stride → channels * stride ≤ length xs → at + 4 * channels ≤ length out₀ → Channels out₀ (0 * stride) at (channels - 0)
+  first_channel h g r =
+      let e : 0 ≡ 0 * stride = omega arith in
+      let z : channels ≡ channels - 0 = omega arith in
+      subst (λ (f : ℕ). Channels out₀ f at (channels - 0)) e (subst (Channels out₀ 0 at) z (start h g r))
+
+  pub next_channel : {out : List ℕ} {to k : ℕ} → Channels out (k * stride) to (channels - k) → k < channels
+      → (out' : List ℕ) (to' : ℕ) → text out' to' ≡ add (sample_bytes (get_or xs (k * stride + place) nan)) (text out to) → Channels out' ((k + 1) * stride) to' (channels - (k + 1))
+  next_channel {out} {to} {k} c h out' to' e =
+      let f : k * stride + stride ≡ (k + 1) * stride = omega arith in
+      let z : channels - k - 1 ≡ channels - (k + 1) = omega arith in
+      let some : 0 < channels - k = omega arith in
+      subst (λ (n : ℕ). Channels out' n to' (channels - (k + 1))) f (subst (Channels out' (k * stride + stride) to') z (turn c some out' to' e))
+
   pub finish : {out : List ℕ} {from to left : ℕ} → Channels out from to left → left ≤ 0 → out ≡ sets out₀ at (bytes_of (frame_at channels stride xs place))
   unfolding bytes_of frame_at
   finish {out} {from} {to} {left} c h = let z : left ≡ 0 = omega arith in ended (left_is c.put (ap (λ (k : ℕ). bytes_of (frame_at k stride (drop from xs) place)) z))
+
+  pub last_channel : {out : List ℕ} {from to k : ℕ} → Channels out from to (channels - k) → channels ≤ k → out ≡ sets out₀ at (bytes_of (frame_at channels stride xs place))
+  last_channel c h = finish c (omega arith)
 
 -- ---- all frames
 frames_step : (c n w : ℕ) (xs : List Float) (j : ℕ) → j < n → bytes_of (frames_from c (n - j) w xs j) ≡ bytes_of (frame_at c w xs j) ++ bytes_of (frames_from c (n - (j + 1)) w xs (j + 1))

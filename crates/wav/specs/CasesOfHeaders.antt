@@ -1,5 +1,5 @@
 -- The header of a few WAVs, computed; the expected bytes are written from the formats' descriptions (RIFF WAVE, EBU Tech 3306). Assumes nothing.
-use Rattle.std.specs.Prelude.{◌≡◌, ℕ, Bool, true, false, List, [], ◌∷◌, length, refl}
+use Rattle.std.specs.Prelude.{◌≡◌, ℕ, Bool, true, false, [], ◌∷◌, length, refl}
 use Rattle.little_endian.specs.LowBytes.{little_endian}
 use Rattle.little_endian.specs.Fields.{joined}
 use Rattle.wav.specs.Header.{is_large, parts_of, header_bytes}

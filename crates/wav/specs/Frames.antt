@@ -1,6 +1,6 @@
 -- The data of a WAV: frame after frame, in each the sample of every channel. Assumes nothing.
-use Rattle.std.specs.Prelude.{◌≡◌, ℕ, zero, suc, ◌*◌, Bool, cond, List, [], ◌∷◌, ◌++◌, length, drop, nat_lt, slice_index_or, refl, Float}
-use Rattle.std.specs.Float.{nan, fin}
+use Rattle.std.specs.Prelude.{ℕ, zero, suc, ◌*◌, cond, List, [], ◌∷◌, ◌++◌, length, drop, nat_lt, slice_index_or, Float}
+use Rattle.std.specs.Float.{nan}
 use Rattle.little_endian.specs.Samples.{bytes_of}
 
 -- the sample at place j of each of c channels; the channels begin w places apart

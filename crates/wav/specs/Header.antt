@@ -1,10 +1,8 @@
 -- The header of a WAV file of 32-bit float samples. Below 4 GB: RIFF, the format (IEEE float), the count of frames (fact), a chunk JUNK that readers pass over, and the data's size. From there on it is an RF64 (EBU Tech 3306): ds64, in JUNK's
 -- stead and before the format, has the sizes, and the sizes of 32 bits are all ones. Both take 94 bytes. Assumes nothing.
-use Rattle.std.specs.Prelude.{◌≡◌, ℕ, ◌+◌, ◌*◌, Bool, true, false, cond, List, [], ◌∷◌, ◌++◌, nat_le, nat_lt, refl, Float}
-use Rattle.std.specs.Float.{binary64}
+use Rattle.std.specs.Prelude.{ℕ, ◌+◌, ◌*◌, Bool, true, false, cond, Option, None, Some, List, [], ◌∷◌, ◌++◌, ◌==◌, nat_le, nat_lt, Float}
 use Rattle.floats.specs.Arithmetic.{whole, ◌≈ᶠ◌}
 use Rattle.floats.specs.Floats.{index}
-use Rattle.little_endian.specs.LowBytes.{little_endian}
 use Rattle.little_endian.specs.Fields.{Part, word, long, joined}
 
 -- a field of two bytes
@@ -83,6 +81,6 @@ numbers_of false c r n =
     RIFF ∷ file_size c n ∷ WAVE ∷ fmt ∷ 18 ∷ 3 ∷ c ∷ r ∷ r * align_of c ∷ align_of c ∷ 32 ∷ 0 ∷ fact ∷ 4 ∷ n
     ∷ JUNK ∷ 28 ∷ file_size c n ∷ data_size c n ∷ n ∷ 0 ∷ data_name ∷ data_size c n ∷ []
 
--- a rate that is a whole number below 2^32; 0 for any other
-unfoldable pub whole_rate : Float → ℕ
-whole_rate x = cond (nat_lt 4294967295 (index x)) 0 (cond (whole (index x) ≈ᶠ x) (index x) 0)
+-- a rate that is a whole number from 1 on and below 2^32
+unfoldable pub whole_rate : Float → Option ℕ
+whole_rate x = cond (index x == 0) None (cond (nat_lt 4294967295 (index x)) None (cond (whole (index x) ≈ᶠ x) (Some (index x)) None))

@@ -1,33 +1,17 @@
 -- What `trail_wav` puts down record after record, with `apply` and `put_frames`, is the data that the plain ledger gives the tape. Assumes nothing.
-use Rattle.std.specs.Prelude.{◌≡◌, ℕ, zero, suc, ◌*◌, ◌≤◌, Bool, true, false, cond, List, [], ◌++◌, length, replicate, ◌==◌, nat_eq, refl, Float}
-use Rattle.std.proofs.Math.Path.{sym, ap}
-use Rattle.std.proofs.Common.{◌∙◌, mul-le-mul_right, arith, le-ltb}
-use Rattle.std.proofs.Math.Option.{none}
-use Rattle.std.proofs.lemmas.List.{length-replicate}
+use Rattle.std.specs.Prelude.{◌≡◌, ℕ, zero, suc, true, cond, List, [], ◌++◌, length, replicate, ◌==◌, Float}
 use Rattle.apply.specs.declared.Applied.{Applied}
-use Rattle.apply.specs.Applying as Engine
-use Rattle.apply.specs.Applying.{applied_to, applied_out, silent_of, sounding_of, lent_tick, lent_block, ticking, processing}
-use Rattle.event.specs.declared.MixOrder.TheVariants.{Forward}
+use Rattle.apply.specs.Applying.{applied_to, applied_out}
 use Rattle.event.specs.declared.ReplayMode.TheVariants.{All}
 use Rattle.floats.specs.Arithmetic.{zeroᶠ}
-use Rattle.ledger.specs.Ledger.{Ledger, fresh}
-use Rattle.ledger.specs.Calls.{tick, block}
-use Rattle.little_endian.specs.Samples.{bytes_of}
-use Rattle.render.specs.Follows.{Follows, Followed, Readable, outputs, starts, follows, readable}
-use Rattle.render.specs.Heard.{step_channels}
+use Rattle.ledger.specs.Ledger.{Ledger}
+use Rattle.render.specs.Follows.{Follows}
 use Rattle.sequencer.specs.declared.Sequencer.{Sequencer}
-use Rattle.sequencer.specs.declared.Outcome.{Outcome}
 use Rattle.sequencer.specs.Creation.{created}
-use Rattle.sequencer.specs.Rendering.{ticks, blocks}
-use Rattle.tape.specs.declared.reader.Call.{Call}
-use Rattle.tape.specs.declared.reader.Call.TheVariants.{Create, Push, PushRelative, PushDuration, Edit, EditRelative, Tick, Process, Reset, SetSampleRate}
 use Rattle.tape.specs.declared.reader.Cursor.{Cursor}
 use Rattle.tape.specs.declared.reader.Read.{Read}
 use Rattle.tape.specs.declared.reader.Read.TheVariants.{Record, Refused, End}
-use Rattle.tape.specs.Fields.{Bytes}
 use Rattle.tape.specs.Tape.{read_at}
-use Rattle.tape_extent.specs.Extents.{frames_of}
-use Rattle.tape_extent.specs.Playing.{Played, heard, play}
 use Rattle.wav.specs.Data as Data
 use Rattle.wav.specs.Data.{record_data, data_from, tape_data}
 use Rattle.wav.specs.Frames.{frames_from, data_bytes}

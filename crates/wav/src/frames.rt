@@ -20,13 +20,9 @@ fn put_frame(
     requires fact_3 { at + 4 * channels ≤ length out.old }
     ensures { out.new ≡ sets out.old at (bytes_of (frame_at channels stride samples.now place)) }
 {
-    let mut from: usize = 0;
     let mut to = at;
-    let mut left = channels;
-    while left > 0 {
-        to = little_endian::put_sample(samples[from + place], out, to);
-        from = from + stride;
-        left = left - 1;
+    for channel in 0..channels {
+        to = little_endian::put_sample(samples[channel * stride + place], out, to);
     }
 }
 
@@ -37,11 +33,9 @@ fn put_all(samples: &[f32], channels: usize, each: usize, stride: usize, out: &m
     ensures { out.new ≡ sets out.old 0 (bytes_of (frames_from channels each stride samples.now 0)) }
 {
     let mut at: usize = 0;
-    let mut place: usize = 0;
-    while place < each {
+    for place in 0..each {
         put_frame(samples, channels, stride, place, out, at);
-        at = at + 4 * channels;
-        place = place + 1;
+        at += 4 * channels;
     }
 }
 
@@ -72,21 +66,13 @@ pub fn put_frames(
     4 * (channels * each)
 }
 
-fn greater(a: u32, b: u32) -> u32
-    ensures { result ≡ max a b }
-{
-    if a < b { b } else { a }
-}
-
 // The greatest magnitude of a run's samples and of what was found before.
 pub fn loudest(run: &[f32], before: u32) -> u32
     ensures { result ≡ max before (greatest (map magnitude run.now)) }
 {
     let mut most = before;
-    let mut i: usize = 0;
-    while i < run.len() {
-        most = greater(most, float_bits::f32_to_bits(run[i]) % 0x8000_0000);
-        i = i + 1;
+    for sample in run {
+        most = most.max(float_bits::f32_to_bits(*sample) % 0x8000_0000);
     }
     most
 }

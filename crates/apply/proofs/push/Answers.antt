@@ -5,7 +5,6 @@ use Rattle.ledger.specs.Calls.{PushKind, absolute, relative, by_duration}
 use Rattle.sequencer.specs.declared.Outcome.{Outcome}
 use Rattle.sequencer.specs.declared.Pushed.{Pushed}
 use Rattle.apply.specs.Applying.{push_kind_of, pushed}
-use borrow.Author.Rules.{rules}
 use Rattle.apply.proofs.push.Goals as goal
 
 -- without the rise

@@ -1,5 +1,4 @@
 -- `apply::silent` meets its contract. Assumes nothing.
-use borrow.Author.Rules.{rules}
 use Rattle.apply.proofs.silent.Goals as goal
 
 pub returns : goal.returns

@@ -1,5 +1,4 @@
 -- `apply::sounding` meets its contract. Assumes nothing.
-use borrow.Author.Rules.{rules}
 use borrow.Author.Tests.{eq-eqb, ne_eqb}
 use Rattle.apply.specs.Applying.{sounding_of}
 use Rattle.apply.proofs.sounding.Goals as goal

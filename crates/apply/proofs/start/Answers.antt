@@ -1,5 +1,4 @@
 -- `apply::start` meets its contract. Assumes nothing.
-use borrow.Author.Rules.{rules}
 use mathlib.Core.Path.{ap}
 use Rattle.sequencer.specs.declared.Outcome.{Outcome}
 use Rattle.apply.proofs.start.Goals as goal

@@ -6,6 +6,7 @@ use Prim.Native.Nat.{ℕ}
 use Rattle.memory.specs.Memory.{cells_of, engine_of}
 use Rattle.tape.specs.Tape.{plain_kind}
 use Rattle.apply.specs.Applying.{push_kind_of}
+use Rattle.live.specs.CallContracts.{timed}
 use Rattle.batch.proofs.Running.{stops-one, pushed-one}
 use Rattle.batch.proofs.push_record.Goals as goal
 
@@ -20,7 +21,7 @@ pub returns : goal.returns
 returns c =
     let a = c.args in
     let h = sym (ap (λ (k : ℕ). eqb k 0) c.stop_of-stop.ensures) ∙ eq-eqb _ 0 c.if-stop-ne0.false in
-    let k = ap push_kind_of (c.plain_kind-kind.ensures ∙ ap plain_kind c.byte-byte.ensures) in
-    let r = pushed-one a.bs.now (engine_of (cells_of a.times.now a.levels.now a.marks.now a.numbers.now)) _ _ c.plain_kind-kind.result c.push_of-p.result _ h k
-    c.push_of-p.ensures c.push_of_kind-answer.ensures.engine c.push_of_kind-answer.ensures.answer c.refusal.ensures in
+    let k = c.timing_of.ensures ∙ ap push_kind_of (c.plain_kind-kind.ensures ∙ ap plain_kind c.byte.ensures) in
+    let r = pushed-one a.bs.now (engine_of (cells_of a.times.now a.levels.now a.marks.now a.numbers.now)) _ _ (timed c.timing_of.result) c.push_of-p.result _ h k
+    c.push_of-p.ensures c.push-answer.ensures.engine c.push-answer.ensures.answer c.refusal.ensures in
     record { engine = r.0; answer = r.1 }

@@ -14,6 +14,3 @@ use Rattle.batch.proofs.push_records.Given as goal
 abbrev pub invariant-loop-pushed : goal.invariant-loop-pushed
 invariant-loop-pushed l =
     Running l.count l.records (engine_of (cells_of l.initial.times l.initial.levels l.initial.marks l.initial.numbers)) l.initial.given l.pushed l.at (engine_of (cells_of l.times l.levels l.marks l.numbers)) l.given
-
-abbrev pub decreases-loop-pushed : goal.decreases-loop-pushed
-decreases-loop-pushed l = l.count - l.pushed

@@ -1,7 +1,6 @@
 use borrow.Author.Tests.{le-leb, lt-leb}
 use Rattle.chart.specs.Scale.{breadth_of}
 use mathlib.Core.Path.{refl, sym}
-use borrow.Author.Rules.{rules}
 use Rattle.chart.proofs.breadth.Goals as goal
 
 pub returns-then-b-a : goal.returns-then-b-a

@@ -1,8 +1,7 @@
-use mathlib.Core.Path.{refl, sym}
+use mathlib.Core.Path.{refl}
 use native.Mathlib.Omega.{arith}
 use borrow.Author.Tests.{eq-eqb, ne_eqb}
 use Rattle.chart.specs.Scale.{lanes_end}
-use borrow.Author.Rules.{rules}
 use Rattle.chart.proofs.lanes_end.Goals as goal
 
 pub returns-then-n-eq0 : goal.returns-then-n-eq0

@@ -1,12 +1,9 @@
 -- `digests::mixed` meets its contract. Assumes nothing.
-use Rattle.std.proofs.Common.{rules}
+use Rattle.std.proofs.Common.{◌∙◌}
 use Rattle.digests.specs.Digests.{mixed}
-use Rattle.digests.proofs.Mixing.{turned_fits}
+use Rattle.digests.proofs.Mixing.{turned_is}
 use Rattle.digests.proofs.mixed.Goals as goal
-
-pub overflow_add-turned : goal.overflow_add-turned
-overflow_add-turned c = record { fits = turned_fits _ c.ranges.digest.fits }
 
 pub returns : goal.returns
 unfolding mixed
-returns c = c.wrapping_add_u64.ensures.value
+returns c = rw (c.rotate_left.ensures ∙ turned_is _ c.ranges.digest.fits)

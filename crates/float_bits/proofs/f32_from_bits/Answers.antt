@@ -1,5 +1,4 @@
 -- `float_bits::f32_from_bits` meets its contract. Assumes nothing.
-use borrow.Author.Rules.{rules}
 use lib.Ieee.{binary32, div, of_bits}
 use Rattle.float_bits.proofs.Patterns.{nan_there, no_nan_there}
 use Rattle.float_bits.proofs.f32_from_bits.Goals as goal

@@ -1,12 +1,9 @@
 -- `float_bits::f64_to_bits` meets its contract. Assumes nothing.
-use borrow.Author.Rules.{rules}
+use mathlib.Core.Path.{sym}
 use lib.Ieee.{binary64, to_bits}
-use Rattle.float_bits.proofs.Patterns.{same_no_nan, nan_bits_lem}
+use Rattle.float_bits.proofs.Patterns.{nan_bits_lem}
 use Rattle.float_bits.proofs.f64_to_bits.Goals as goal
 
-pub float_to_bits-result : goal.float_to_bits-result
-float_to_bits-result c = same_no_nan c.args.x c.if-x.false
-
-pub returns-then-x : goal.returns-then-x
+pub returns-then-is_nan : goal.returns-then-is_nan
 unfolding to_bits
-returns-then-x c = nan_bits_lem binary64 c.args.x c.if-x.true
+returns-then-is_nan c = nan_bits_lem binary64 c.args.x (sym c.if-is_nan.ensures.value)

@@ -1,6 +1,5 @@
 -- `floats::narrow_bits` meets its contract. Assumes nothing.
-use Rattle.std.proofs.Common.{◌≡◌, ℕ, ◌+◌, ◌-◌, ◌*◌, ◌%◌, ◌^◌, ◌<◌, ◌≤◌, min, sym, refl, ap, ◌∙◌, subst, ⊎_elim, arith, pow_pos, rules}
-use lib.Ieee.Nearest.{closest}
+use Rattle.std.proofs.Common.{◌≡◌, ℕ, ◌+◌, ◌-◌, ◌*◌, ◌%◌, ◌^◌, ◌<◌, ◌≤◌, min, sym, ap, ◌∙◌, subst, arith, pow_pos}
 use Rattle.floats.proofs.Fields.{sgn, fld, wanted, unit-is, closest_le, bits-normal, bits-subnormal, bits_zero}
 use Rattle.floats.proofs.narrow_bits.Goals as goal
 use Rattle.floats.proofs.narrow_bits.Goals.{Joined-field-gt896, then-field-gt896, else-field-gt896+then-field-gt872, else-field-gt896+else-field-gt872}

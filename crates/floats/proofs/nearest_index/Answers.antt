@@ -1,5 +1,5 @@
 -- `floats::nearest_index` meets its contract: it is the number that `sample_index` gives.
-use Rattle.std.proofs.Common.{ap, rules}
+use Rattle.std.proofs.Common.{ap}
 use Rattle.floats.specs.declared.SampleIndex.{SampleIndex}
 use Rattle.floats.specs.IndexStep.{sample_index}
 use Rattle.floats.proofs.nearest_index.Goals as goal

@@ -1,5 +1,5 @@
 -- `floats::rounded` meets its contract. Assumes nothing.
-use Rattle.std.proofs.Common.{◌/◌, sym, ◌∙◌, div-le_self, add-one, arith, rules}
+use Rattle.std.proofs.Common.{◌/◌, sym, ◌∙◌, div-le_self, add-one, arith}
 use native.Mathlib.Nat.{mod-le}
 use Rattle.floats.specs.Closest.{closest_lt, closest_eq, closest_gt}
 use Rattle.floats.proofs.rounded.Goals as goal

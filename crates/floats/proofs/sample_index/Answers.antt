@@ -1,5 +1,5 @@
 -- `floats::sample_index` meets its contract. The code's numbers stand in MIR by their bit patterns, which `unfolding of_bits` turns to `fin s m e`. Assumes nothing.
-use Rattle.std.proofs.Common.{◌≡◌, ℕ, ◌+◌, ◌/◌, ◌^◌, ◌<◌, T, sym, ap, ◌∙◌, subst, arith, rules}
+use Rattle.std.proofs.Common.{ℕ, ◌+◌, ◌/◌, ◌^◌, ◌<◌, T, sym, ap, ◌∙◌, subst, arith}
 use lib.Ieee.{binary64, fits, of_bits, neg}
 use Rattle.floats.specs.IndexStep.{sample_index}
 use Rattle.floats.proofs.Index.{two64, index_low, index_high, index-whole, index-half, half-above, lt_T, both, clamp_high, clamp_half, clamp_whole, clamp_small, clamp_low}
@@ -44,9 +44,9 @@ returns-then-x-3 c =
     let whole = index-whole s.args.x (held s) t.if-x.true t.if-x-2.false t.if-x-3.true in
     c.freely-then-x-3.ensures ∙ both (t.truncating_f64_to_u64-then-x-3.ensures ∙ whole) (clamp_whole s.args.x (held s) t.if-x.true t.if-x-2.false t.if-x-3.true)
 
-pub returns-then-x : goal.returns-then-x
+pub returns-else-x-3 : goal.returns-else-x-3
 unfolding sample_index of_bits
-returns-then-x c =
+returns-else-x-3 c =
     let x = c.args.x in
     both (index_high x c.if-x.true c.if-x-3.false) (clamp_high x c.if-x.true c.if-x-3.false)
 
@@ -56,8 +56,8 @@ returns-then-x-4 c =
     let x = c.args.x in
     c.freely-then-x-4.ensures ∙ both (index_low x c.if-x.false) (clamp_small x c.if-x.false c.if-x-4.true)
 
-pub returns : goal.returns
+pub returns-else-x-4 : goal.returns-else-x-4
 unfolding sample_index of_bits neg
-returns c =
+returns-else-x-4 c =
     let x = c.args.x in
     both (index_low x c.if-x.false) (clamp_low x c.if-x.false c.if-x-4.false)

@@ -1,5 +1,4 @@
-use borrow.Author.Tests.{le-ltb, lt-ltb, le-leb, lt-leb, eq-eqb, ne_eqb}
-use borrow.Author.Rules.{rules}
+use borrow.Author.Tests.{eq-eqb, ne_eqb}
 use Rattle.listing.proofs.ending.Goals as goal
 
 pub returns-then-i-n : goal.returns-then-i-n

@@ -1,6 +1,5 @@
 -- `listing::kind_line` meets its contract: digits, numbers and the line's end. Assumes nothing.
-use Prim.Native.Nat.{◌+◌}
-use mathlib.Core.Path.{◌≡◌, refl, ap, ◌∙◌}
+use mathlib.Core.Path.{refl, ap, ◌∙◌}
 use mathlib.Core.List.{[], ◌∷◌}
 use native.Mathlib.Omega.{arith}
 use lib.ListN.{length, length-set}
@@ -8,7 +7,6 @@ use lib.Seq.{length-sets}
 use Rattle.listing.specs.Putting.{further, same-long, put_whole, put-none}
 use Rattle.listing.specs.Text.{digits}
 use Rattle.listing.proofs.Lines.{kind_long, kind_put}
-use borrow.Author.Rules.{rules}
 use Rattle.listing.proofs.kind_line.Goals as goal
 
 pub returns-then-out-spaced_length : goal.returns-then-out-spaced_length

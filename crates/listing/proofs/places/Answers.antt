@@ -1,21 +1,10 @@
-use Rattle.listing.proofs.Lines.{Counting, count_start, count_more, count_end}
-use mathlib.Core.Path.{◌≡◌, refl, sym, ap, ◌∙◌, subst}
-use Prim.Native.Nat.{ℕ, ◌≤◌, ◌<◌, ◌-◌, ◌+◌, ◌*◌, ◌^◌}
-use native.Mathlib.Omega.{arith}
-use borrow.Author.Rules.{rules}
+-- `listing::places` meets its contract: the number's decimal logarithm, and one. Assumes nothing.
+use Rattle.std.proofs.Common.{ℕ, ◌≤◌, ◌<◌, ◌*◌, ◌^◌, subst}
+use Rattle.listing.proofs.Lines.{places-most}
 use Rattle.listing.proofs.places.Goals as goal
 
-pub loop-rest-init : goal.loop-rest-init
-loop-rest-init c = count_start _ c.ranges.n.fits
-
-pub overflow_add-k : goal.overflow_add-k
-overflow_add-k c = let s = c.loop-rest.invariant.sum in search rules
-
-pub loop-rest-smaller : goal.loop-rest-smaller
-loop-rest-smaller c = omega arith
-
-pub loop-rest-preserved : goal.loop-rest-preserved
-loop-rest-preserved c = count_more c.loop-rest-test.true c.loop-rest.invariant
-
-pub returns : goal.returns
-returns c = let p = c.loop-rest.invariant in let o = p.some in let s = p.sum in record { value = count_end c.loop-rest-test.false p; upper_bound = omega arith }
+pub returns-clause-value : goal.returns-clause-value
+returns-clause-value c =
+    let k = c.ilog10.ensures in
+    let e = c.max.ensures in
+    places-most c.ilog10.result c.args.n k.bound (subst (λ (m : ℕ). 10 ^ c.ilog10.result ≤ m) e k.power_le) (subst (λ (m : ℕ). m < 10 * 10 ^ c.ilog10.result) e k.next_power_gt)

@@ -1,13 +1,12 @@
 -- `listing::put_number` meets its contract: a space, then the digits. Assumes nothing.
-use mathlib.Core.Path.{◌≡◌, ap, ◌∙◌}
-use Prim.Native.Nat.{ℕ, suc, ◌≤◌, ◌+◌}
+use mathlib.Core.Path.{ap, ◌∙◌}
+use Prim.Native.Nat.{ℕ, suc}
 use native.Mathlib.Numerals.{add-one}
 use native.Mathlib.Omega.{arith}
 use lib.Seq.{sets, length-sets}
 use lib.ListN.{length, set, length-set}
-use Rattle.listing.specs.Text.{digits, places_of, decimal}
+use Rattle.listing.specs.Text.{digits, decimal}
 use Rattle.listing.proofs.Lines.{length-decimal}
-use borrow.Author.Rules.{rules}
 use Rattle.listing.proofs.put_number.Goals as goal
 
 pub put_digits-requires : goal.put_digits-requires

@@ -2,14 +2,11 @@
 use mathlib.Core.Path.{◌≡◌, sym, ap, ◌∙◌}
 use mathlib.Core.List.{List, [], ◌∷◌, ◌++◌}
 use Prim.Native.Nat.{ℕ, ◌+◌}
-use native.Mathlib.Omega.{arith}
-use lib.Ieee.{binary32, to_bits}
-use lib.ListN.{length, set, length-set}
-use lib.Seq.{sets, length-sets}
+use lib.ListN.{length, set}
+use lib.Seq.{sets}
 use Rattle.listing.specs.Putting.{sets_append}
 use Rattle.listing.specs.Text.{digits}
 use Rattle.listing.proofs.Lines.{length_digits}
-use borrow.Author.Rules.{rules}
 use Rattle.listing.proofs.put_sample.Goals as goal
 
 pub returns : goal.returns

@@ -1,5 +1,4 @@
 -- `lists::kept` meets its contract. Assumes nothing.
-use Rattle.std.proofs.Common.{rules}
 use Rattle.lists.specs.Past.{kept_by}
 use Rattle.lists.proofs.kept.Goals as goal
 

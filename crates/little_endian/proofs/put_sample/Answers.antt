@@ -7,7 +7,6 @@ use lib.Seq.{sets}
 use Rattle.little_endian.specs.LowBytes.{little_endian}
 use Rattle.little_endian.specs.Samples.{sample_bytes, length_sample}
 use Rattle.little_endian.proofs.Steps.{no_place, placed}
-use borrow.Author.Rules.{rules}
 use Rattle.little_endian.proofs.put_sample.Goals as goal
 
 pub returns-then-out-at : goal.returns-then-out-at

@@ -2,7 +2,7 @@
 use borrow.Author.Rules.{rules}
 use mathlib.Core.Path.{◌≡◌, refl, sym, ap, ◌∙◌}
 use mathlib.Core.List.{List, ◌++◌}
-use Prim.Native.Nat.{ℕ, ◌+◌, ◌-◌, ◌*◌, ◌≤◌, ◌<◌}
+use Prim.Native.Nat.{ℕ, ◌+◌, ◌≤◌, ◌<◌}
 use native.Mathlib.Omega.{arith}
 use lib.ListN.{length, drop, get_or}
 use Rattle.listing.specs.Putting.{Pieces, first_piece, piece_fits, next_piece, last_piece, same-long}
@@ -28,29 +28,29 @@ returns-then-out-at c = let l = length_bytes c.args.samples.now in no_place _ _ 
 pub returns-then-out-at-2 : goal.returns-then-out-at-2
 returns-then-out-at-2 c = let l = length_bytes c.args.samples.now in no_place _ _ _ (omega (arith, c.if-out-at.false))
 
-pub loop-i-init : goal.loop-i-init
-loop-i-init c = first_piece bytes_of _ _ _ (omega (arith, c.if-out-at.false, c.if-out-at-2.false, length_bytes c.args.samples.now))
+pub loop-sample-init : goal.loop-sample-init
+loop-sample-init c = first_piece bytes_of _ _ _ (omega (arith, c.if-out-at.false, c.if-out-at-2.false, length_bytes c.args.samples.now))
 
 pub put_word-requires : goal.put_word-requires
-put_word-requires c = fits_next _ _ _ _ _ _ _ c.loop-i.invariant c.loop-i-test.true c.f32_to_bits-bits.ensures
+put_word-requires c = fits_next _ _ _ _ _ _ _ c.loop-sample.invariant c.loop-sample-test.true c.f32_to_bits-bits.ensures
 
 pub overflow_add-to : goal.overflow_add-to
 overflow_add-to c =
-    let l = fits_next _ _ _ _ _ _ _ c.loop-i.invariant c.loop-i-test.true c.f32_to_bits-bits.ensures in
-    let s = same-long c.loop-i.invariant.put in
+    let l = fits_next _ _ _ _ _ _ _ c.loop-sample.invariant c.loop-sample-test.true c.f32_to_bits-bits.ensures in
+    let s = same-long c.loop-sample.invariant.put in
     search rules
 
-pub loop-i-preserved : goal.loop-i-preserved
-loop-i-preserved c =
+pub loop-sample-preserved : goal.loop-sample-preserved
+loop-sample-preserved c =
     let n = length_little 4 c.f32_to_bits-bits.result in
-    next_piece bytes_of _ _ _ c.loop-i.invariant c.loop-i-test.true (little_endian 4 c.f32_to_bits-bits.result) (next _ _ _ c.loop-i-test.true c.f32_to_bits-bits.ensures) _ c.put_word.ensures _ (omega arith)
+    next_piece bytes_of _ _ _ c.loop-sample.invariant c.loop-sample-test.true (little_endian 4 c.f32_to_bits-bits.result) (next _ _ _ c.loop-sample-test.true c.f32_to_bits-bits.ensures) _ c.put_word.ensures _ (omega arith)
 
 pub shape_of-out : goal.shape_of-out
-shape_of-out c = same-long c.loop-i.invariant.put
+shape_of-out c = same-long c.loop-sample.invariant.put
 
 pub returns : goal.returns
 unfolding bytes_of
 returns c =
-    let i = c.loop-i.invariant in
-    let p = last_piece bytes_of _ _ _ i c.loop-i-test.false refl in
+    let i = c.loop-sample.invariant in
+    let p = last_piece bytes_of _ _ _ i c.loop-sample-test.false refl in
     placed _ _ _ i.room _ _ p.0 p.1

@@ -18,7 +18,7 @@ unfolding applied_to applied_out
 returns-in-Push c =
     let a = c.args in
     let r = of_arm a.pool.now (engine_of (cells_of a.times.now a.levels.now a.marks.now a.numbers.now)) a.kind a.samples.now c.in-Push.is
-    (c.push.ensures.engine, (silent-left _ c.silent-in-Push.ensures c.push.ensures.answer, refl)) in
+    (c.push-answer.ensures.engine, (silent-left _ c.silent-in-Push.ensures c.push-answer.ensures.answer, refl)) in
     record { engine = r.0; answer = r.1.0; samples = r.1.1 }
 
 pub returns-in-PushRelative : goal.returns-in-PushRelative
@@ -26,7 +26,7 @@ unfolding applied_to applied_out
 returns-in-PushRelative c =
     let a = c.args in
     let r = of_arm a.pool.now (engine_of (cells_of a.times.now a.levels.now a.marks.now a.numbers.now)) a.kind a.samples.now c.in-PushRelative.is
-    (c.push_relative.ensures.engine, (silent-left _ c.silent-in-PushRelative.ensures c.push_relative.ensures.answer, refl)) in
+    (c.push-answer-in-PushRelative.ensures.engine, (silent-left _ c.silent-in-PushRelative.ensures c.push-answer-in-PushRelative.ensures.answer, refl)) in
     record { engine = r.0; answer = r.1.0; samples = r.1.1 }
 
 pub returns-in-PushDuration : goal.returns-in-PushDuration
@@ -34,7 +34,7 @@ unfolding applied_to applied_out
 returns-in-PushDuration c =
     let a = c.args in
     let r = of_arm a.pool.now (engine_of (cells_of a.times.now a.levels.now a.marks.now a.numbers.now)) a.kind a.samples.now c.in-PushDuration.is
-    (c.push_duration.ensures.engine, (silent-left _ c.silent-in-PushDuration.ensures c.push_duration.ensures.answer, refl)) in
+    (c.push-answer-in-PushDuration.ensures.engine, (silent-left _ c.silent-in-PushDuration.ensures c.push-answer-in-PushDuration.ensures.answer, refl)) in
     record { engine = r.0; answer = r.1.0; samples = r.1.1 }
 
 pub returns-in-Edit : goal.returns-in-Edit

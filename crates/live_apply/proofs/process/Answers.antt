@@ -6,11 +6,10 @@ use Rattle.sequencer.specs.Rendering.{blocks, block_outs}
 use Rattle.apply.specs.Applying.{processing, processing_out}
 use Rattle.memory.specs.Memory.{cells_of, engine_of}
 use Rattle.live_apply.proofs.Carried.{channels_of_lem, front_length, lent-engine, lent-left, lent_output}
-use borrow.Author.Rules.{rules}
 use Rattle.live_apply.proofs.process.Goals as goal
 
 pub slice_bounds-process-end-2 : goal.slice_bounds-process-end-2
-slice_bounds-process-end-2 c = sym (front_length c.args.samples.now (64 * c.least-channels.result) c.least-n.ensures)
+slice_bounds-process-end-2 c = sym (front_length c.args.samples.now (64 * c.min-channels.result) c.min-n.ensures)
 
 pub returns : goal.returns
 unfolding processing processing_out
@@ -19,8 +18,8 @@ returns c =
     let d = cells_of a.times.now a.levels.now a.marks.now a.numbers.now in
     let s = engine_of d in
     let x = a.samples.now in
-    let k = channels_of_lem d c.least-channels.ensures in
-    let n = c.least-n.ensures in
+    let k = channels_of_lem d c.min-channels.ensures in
+    let n = c.min-n.ensures in
     let t = c.process-answer.ensures in
     record {
       engine = lent-engine x (λ (k : ℕ). 64 * k) k n (λ (n : ℕ). blocks Forward a.pool.now a.size n s) a.size 64 t.engine;

@@ -1,8 +1,7 @@
 -- `live_apply::silent` meets its contract.
 use mathlib.Core.Path.{ap}
 use Rattle.live_apply.specs.Leaving.{answered_left}
-use borrow.Author.Rules.{rules}
 use Rattle.live_apply.proofs.silent.Goals as goal
 
 pub returns : goal.returns
-returns c = ap (answered_left c.args.kind) c.refusal-n.ensures
+returns c = ap (answered_left c.args.kind) c.refusal.ensures

@@ -1,37 +1,37 @@
-use mathlib.Core.Path.{sym, ◌∙◌}
-use native.Mathlib.Omega.{arith}
-use Rattle.lodge.proofs.Theorem.{too_many, too_late_lem, no_length, unordered, searching, this_week_lem, next_week_lem, no_week, found_inside}
-use borrow.Author.Rules.{rules}
+use Rattle.std.proofs.Common.{◌≡◌, Some, None, Err, sym, ap, ◌∙◌, arith}
+use Rattle.std.specs.Option.{ok_or}
+use Rattle.lodge.specs.declared.Refusal.TheVariants.{TooLong}
+use Rattle.std.proofs.lemmas.Result.{err_from_is_err_and}
+use Rattle.lodge.proofs.Theorem.{not_proper, unordered, searching, this_week_lem, next_week_lem, no_week, found_inside}
 use Rattle.lodge.proofs.earliest.Goals as goal
 
 pub returns-then-hours-gt16 : goal.returns-then-hours-gt16
-returns-then-hours-gt16 c = too_many _ _ _ c.if-hours-gt16.true
+returns-then-hours-gt16 c = not_proper _ _ _ c.then-hours-gt16.either
 
-pub returns-then-minute-gt4294967295 : goal.returns-then-minute-gt4294967295
-returns-then-minute-gt4294967295 c = too_late_lem _ _ _ c.if-hours-gt16.false c.if-minute-gt4294967295.true
-
-pub returns-then-length-eq0 : goal.returns-then-length-eq0
-returns-then-length-eq0 c = no_length _ _ _ c.if-hours-gt16.false c.if-minute-gt4294967295.false c.if-length-eq0.true
+pub returns-then-not-is_orderly : goal.returns-then-not-is_orderly
+returns-then-not-is_orderly c = unordered _ _ _ c.if-hours-gt16.false c.if-minute-gt4294967295.false c.if-length-eq0.false (sym c.is_orderly.ensures ∙ c.if-not-is_orderly.true)
 
 pub overflow_add-result : goal.overflow_add-result
 overflow_add-result c =
-    record { fits = omega (arith, found_inside _ _ _ _ (sym c.is_orderly.ensures ∙ c.if-is_orderly.true) (sym c.first_from-now.ensures ∙ c.in-At.is), c.if-minute-gt4294967295.false) }
+    record { fits = omega (arith, found_inside _ _ _ _ (sym c.is_orderly.ensures ∙ c.if-not-is_orderly.false) (sym c.first_from.ensures ∙ c.in-Some.is), c.if-minute-gt4294967295.false) }
 
-pub overflow_add-result-in-At-then-2 : goal.overflow_add-result-in-At-then-2
-overflow_add-result-in-At-then-2 c =
-    record { fits = omega (arith, found_inside _ _ _ _ (sym c.is_orderly.ensures ∙ c.if-is_orderly.true) (sym c.first_from-then.ensures ∙ c.in-At-then.is), c.if-minute-gt4294967295.false) }
+pub returns-in-Some : goal.returns-in-Some
+returns-in-Some c =
+    this_week_lem _ _ _ _ (sym c.first_from.ensures ∙ c.in-Some.is) ∙ sym (searching _ _ _ c.if-hours-gt16.false c.if-minute-gt4294967295.false c.if-length-eq0.false (sym c.is_orderly.ensures ∙ c.if-not-is_orderly.false))
 
-pub returns-in-At : goal.returns-in-At
-returns-in-At c =
-    this_week_lem _ _ _ _ (sym c.first_from-now.ensures ∙ c.in-At.is) ∙ sym (searching _ _ _ c.if-hours-gt16.false c.if-minute-gt4294967295.false c.if-length-eq0.false (sym c.is_orderly.ensures ∙ c.if-is_orderly.true))
+pub returns-in_err-t : goal.returns-in_err-t
+returns-in_err-t c =
+    let p = err_from_is_err_and c.from_residual.result c.from_residual.ensures.1 in
+    let n : c.first_from-2.result ≡ None = grind arith in
+    let w : c.ok_or.result ≡ Err TooLong = c.ok_or.ensures.value ∙ ap (λ o. ok_or o TooLong) n in
+    rw (p.1, p.2) (sym c.in_err-t.was ∙ w ∙ no_week _ _ _ (sym c.first_from.ensures ∙ c.in_default.is) (sym c.first_from-2.ensures ∙ n) ∙ sym (searching _ _ _ c.if-hours-gt16.false c.if-minute-gt4294967295.false c.if-length-eq0.false (sym c.is_orderly.ensures ∙ c.if-not-is_orderly.false)))
 
-pub returns-in-At-then : goal.returns-in-At-then
-returns-in-At-then c =
-    next_week_lem _ _ _ _ (sym c.first_from-now.ensures ∙ c.in-Nothing.is) (sym c.first_from-then.ensures ∙ c.in-At-then.is) ∙ sym (searching _ _ _ c.if-hours-gt16.false c.if-minute-gt4294967295.false c.if-length-eq0.false (sym c.is_orderly.ensures ∙ c.if-is_orderly.true))
+pub overflow_add-result-3 : goal.overflow_add-result-3
+overflow_add-result-3 c =
+    let n : c.first_from-2.result ≡ Some c.in_ok-t.t = grind arith in
+    record { fits = omega (arith, found_inside _ _ _ _ (sym c.is_orderly.ensures ∙ c.if-not-is_orderly.false) (sym c.first_from-2.ensures ∙ n), c.if-minute-gt4294967295.false) }
 
-pub returns-in-Nothing-then : goal.returns-in-Nothing-then
-returns-in-Nothing-then c =
-    no_week _ _ _ (sym c.first_from-now.ensures ∙ c.in-Nothing.is) (sym c.first_from-then.ensures ∙ c.in-Nothing-then.is) ∙ sym (searching _ _ _ c.if-hours-gt16.false c.if-minute-gt4294967295.false c.if-length-eq0.false (sym c.is_orderly.ensures ∙ c.if-is_orderly.true))
-
-pub returns-else-is_orderly : goal.returns-else-is_orderly
-returns-else-is_orderly c = unordered _ _ _ c.if-hours-gt16.false c.if-minute-gt4294967295.false c.if-length-eq0.false (sym c.is_orderly.ensures ∙ c.if-is_orderly.false)
+pub returns : goal.returns
+returns c =
+    let n : c.first_from-2.result ≡ Some c.in_ok-t.t = grind arith in
+    next_week_lem _ _ _ _ (sym c.first_from.ensures ∙ c.in_default.is) (sym c.first_from-2.ensures ∙ n) ∙ sym (searching _ _ _ c.if-hours-gt16.false c.if-minute-gt4294967295.false c.if-length-eq0.false (sym c.is_orderly.ensures ∙ c.if-not-is_orderly.false))

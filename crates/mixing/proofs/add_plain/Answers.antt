@@ -1,9 +1,9 @@
-use Rattle.std.proofs.Common.{◌≡◌, ℕ, ◌+◌, ◌-◌, ◌≤◌, map, length, take, drop, sym, ap, ◌∙◌, arith, length-drop, length-take-le, rules}
+use Rattle.std.proofs.Common.{◌≡◌, ◌+◌, ◌-◌, ◌≤◌, length, take, drop, ◌∙◌, arith, length-drop, length-take-le}
 use lib.ListN.{length-map}
 use Rattle.event.specs.Runs.{length_made}
 use Rattle.event.specs.Sources.{next_samples, sample_of, advanced}
 use Rattle.floats.specs.Arithmetic.{◌×ˢ◌}
-use Rattle.ledger.specs.BlockSamples.{gained, add_at}
+use Rattle.ledger.specs.BlockSamples.{gained}
 use Rattle.runs.specs.Adding.{add-inside}
 use Rattle.mixing.proofs.add_plain.Goals as goal
 

@@ -1,6 +1,5 @@
 -- `mixing::after_tick` meets its contract. Assumes nothing.
-use Rattle.std.proofs.Common.{rules}
 use Rattle.mixing.proofs.after_tick.Goals as goal
 
 pub returns : goal.returns
-returns c = rw c.advance-unit.ensures
+returns c = rw c.advance-event.ensures

@@ -1,5 +1,5 @@
 -- `mixing::count_fade_in` meets its contract. Assumes nothing.
-use Rattle.std.proofs.Common.{◌≡◌, sym, ap, ◌∙◌, rules}
+use Rattle.std.proofs.Common.{sym, ap, ◌∙◌}
 use Rattle.event.specs.PlacingCounts.{one_more}
 use Rattle.ledger.specs.Places.{fade_in_placings}
 use Rattle.mixing.specs.declared.Place.{Place}

@@ -1,7 +1,6 @@
 -- `mixing::fade_in_place` meets its contract. Assumes nothing.
 use Rattle.ledger.specs.BlockSamples.{fade_in_place}
 use Rattle.ledger.specs.Places.{fade_in_placing}
-use Rattle.std.proofs.Common.{rules}
 use Rattle.mixing.proofs.fade_in_place.Goals as goal
 
 pub returns-then-top-span : goal.returns-then-top-span

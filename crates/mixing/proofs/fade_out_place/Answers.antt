@@ -1,5 +1,5 @@
 -- `mixing::fade_out_place` meets its contract. Assumes nothing.
-use Rattle.std.proofs.Common.{◌≡◌, max, ap, ◌∙◌, arith, rules}
+use Rattle.std.proofs.Common.{◌≡◌, max, ap, ◌∙◌, arith}
 use Rattle.ledger.specs.BlockSamples.{fade_out_place}
 use Rattle.ledger.specs.Places.{fade_out_placing}
 use Rattle.mixing.specs.Placed.{raised_place}

@@ -1,7 +1,6 @@
 -- `mixing::phase_at` meets its contract. Assumes nothing.
 use Rattle.floats.specs.WholeIs.{whole_is}
 use Rattle.ledger.specs.BlockSamples.{phase_at}
-use Rattle.std.proofs.Common.{rules}
 use Rattle.mixing.proofs.phase_at.Goals as goal
 
 pub returns : goal.returns

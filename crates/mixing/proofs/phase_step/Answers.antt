@@ -1,6 +1,5 @@
 -- `mixing::phase_step` meets its contract. Assumes nothing.
 use Rattle.ledger.specs.BlockSamples.{phase_step}
-use Rattle.std.proofs.Common.{rules}
 use Rattle.mixing.proofs.phase_step.Goals as goal
 
 pub returns : goal.returns

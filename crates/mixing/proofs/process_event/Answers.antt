@@ -1,5 +1,5 @@
 -- `mixing::process_event` meets its contract. Assumes nothing.
-use Rattle.std.proofs.Common.{◌≡◌, ℕ, ◌-◌, ◌≤◌, true, ◌||◌, leb, length, sym, ap, ◌∙◌, arith, rules, le-ltb, lt-ltb, leb-true}
+use Rattle.std.proofs.Common.{◌≡◌, ℕ, ◌-◌, ◌||◌, leb, length, sym, ap, ◌∙◌, arith, le-ltb, lt-ltb, leb-true}
 use Rattle.event.specs.declared.Unit.{Unit}
 use Rattle.event.specs.declared.Source.{Source}
 use Rattle.event.specs.Sources.{advanced_by}

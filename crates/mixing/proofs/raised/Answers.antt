@@ -1,5 +1,5 @@
 -- `mixing::raised` meets its contract. Assumes nothing.
-use Rattle.std.proofs.Common.{◌≡◌, max, arith, rules, le-ltb, lt-ltb}
+use Rattle.std.proofs.Common.{◌≡◌, max, arith, le-ltb, lt-ltb}
 use Rattle.mixing.proofs.raised.Goals as goal
 
 pub returns-then-place-s : goal.returns-then-place-s

@@ -1,5 +1,4 @@
 use lib.Ieee.{of_bits}
-use Rattle.std.proofs.Common.{rules}
 use Rattle.mixing.proofs.tick_fade.Goals as goal
 
 pub returns-then-phase : goal.returns-then-phase

@@ -1,4 +1,4 @@
-use Rattle.std.proofs.Common.{T, sym, ◌∙◌, subst, rules}
+use Rattle.std.proofs.Common.{T, sym, ◌∙◌, subst}
 use lib.Ieee.{of_bits}
 use Rattle.ledger.specs.TickSamples.{faded_out}
 use Rattle.mixing.specs.LeftOut.{fade_out_ahead}

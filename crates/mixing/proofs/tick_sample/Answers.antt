@@ -1,5 +1,4 @@
 -- `mixing::tick_sample` meets its contract. Assumes nothing.
-use Rattle.std.proofs.Common.{rules}
 use Rattle.mixing.proofs.tick_sample.Goals as goal
 
 pub returns : goal.returns

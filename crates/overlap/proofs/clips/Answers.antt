@@ -1,10 +1,7 @@
 -- `overlap::clips` meets its contract: refused for the stretch, for the slice, or carried out. Assumes nothing.
-use mathlib.Core.Path.{◌≡◌, refl, sym, ap, ◌∙◌}
-use borrow.Author.Tests.{not-true, not-false}
 use Rattle.memory.specs.Memory.{cells_of, engine_of}
 use Rattle.overlap.specs.Reading.{held_in}
 use Rattle.overlap.proofs.Listing.{no_stretch, no_slice, all_well}
-use borrow.Author.Rules.{rules}
 use Rattle.overlap.proofs.clips.Goals as goal
 
 pub returns-then-not-from-to : goal.returns-then-not-from-to

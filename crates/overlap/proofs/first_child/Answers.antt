@@ -1,15 +1,15 @@
--- `overlap::first_child` meets its contract. Assumes nothing.
-use native.Mathlib.Omega.{arith}
-use mathlib.Core.Path.{◌≡◌, refl, sym, ap, ◌∙◌}
-use Rattle.overlap.proofs.Sifting.{second_child, first_child, only_child}
-use borrow.Author.Rules.{rules}
+use Rattle.std.proofs.Common.{sym, ◌∙◌}
+use Rattle.ready.proofs.Steps.{child_left, child_first, child_second}
+use Rattle.overlap.specs.Keys.{key_less, no_key}
 use Rattle.overlap.proofs.first_child.Goals as goal
+use Rattle.overlap.proofs.first_child.Goals.{else-r-m-via-then-r-m+else-is_sooner, else-r-m-via-else-r-m}
 
-pub returns-then-is_sooner : goal.returns-then-is_sooner
-returns-then-is_sooner c = record { value = sym (second_child _ _ c.requires.fact_3 _ _ c.if-r-m.true (sym c.is_sooner.ensures ∙ c.if-is_sooner.true)); below = (omega arith, omega arith) }
+pub returns-then-is_sooner-clause-value : goal.returns-then-is_sooner-clause-value
+returns-then-is_sooner-clause-value c = sym (child_second key_less no_key _ _ _ c.if-r-m.true (sym c.is_sooner.ensures ∙ c.if-is_sooner.true))
 
-pub returns-then-r-m : goal.returns-then-r-m
-returns-then-r-m c = record { value = sym (first_child _ _ c.requires.fact_3 _ _ (sym c.is_sooner.ensures ∙ c.if-is_sooner.false)); below = (omega arith, omega arith) }
-
-pub returns : goal.returns
-returns c = record { value = sym (only_child _ _ c.requires.fact_3 _ _ c.if-r-m.false); below = (omega arith, omega arith) }
+pub returns-else-r-m-clause-value : goal.returns-else-r-m-clause-value
+returns-else-r-m-clause-value c =
+    elim c.else-r-m.branch [
+      | else-r-m-via-then-r-m+else-is_sooner w ↦ sym (child_first key_less no_key _ _ _ (sym w.is_sooner.ensures ∙ w.if-is_sooner.false))
+      | else-r-m-via-else-r-m w ↦ sym (child_left key_less no_key _ _ _ w.if-r-m.false)
+    ]

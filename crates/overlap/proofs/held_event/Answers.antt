@@ -1,7 +1,6 @@
 -- `overlap::held_event` meets its contract. Assumes nothing.
 use Rattle.memory.specs.Memory.{cells_of}
 use Rattle.overlap.proofs.Gathering.{ends_asked, held_waiting, held_sounding, held_finished}
-use borrow.Author.Rules.{rules}
 use Rattle.overlap.proofs.held_event.Goals as goal
 
 pub returns-then-i-waiting : goal.returns-then-i-waiting

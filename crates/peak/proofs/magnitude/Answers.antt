@@ -1,5 +1,4 @@
 use Rattle.peak.specs.Peaks.{magnitude}
-use borrow.Author.Rules.{rules}
 use Rattle.peak.proofs.magnitude.Goals as goal
 
 pub returns : goal.returns

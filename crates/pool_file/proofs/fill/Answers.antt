@@ -1,12 +1,14 @@
-use Rattle.std.proofs.Common.{refl, rules}
-use Rattle.pool_file.proofs.Gathering.{begins, next, goes_on}
+use Rattle.pool_file.proofs.Gathering.{begins, next, goes_on, wrong}
 use Rattle.pool_file.proofs.fill.Goals as goal
 
-pub loop-turns-init : goal.loop-turns-init
-loop-turns-init g c = (refl, begins _ _ c.requires)
+pub loop-init : goal.loop-init
+loop-init g c = begins _ _ c.requires
 
-pub returns-then-s-ne0 : goal.returns-then-s-ne0
-returns-then-s-ne0 g c = next c.loop-turns.invariant.1 c.step-s.ensures
+pub returns-in_err-s : goal.returns-in_err-s
+returns-in_err-s g c = wrong _ c.from_residual.ensures.0 (next c.loop.invariant c.in_err-s.ensures)
 
-pub loop-turns-preserved : goal.loop-turns-preserved
-loop-turns-preserved g c = (search rules, goes_on c.loop-turns.invariant.1 c.step-s.ensures c.if-s-ne0.false)
+pub returns-then-s : goal.returns-then-s
+returns-then-s g c = next c.loop.invariant c.in_ok-s.ensures
+
+pub loop-preserved : goal.loop-preserved
+loop-preserved g c = goes_on c.loop.invariant c.in_ok-s.ensures

@@ -1,8 +1,11 @@
-use Rattle.pool_file.proofs.Gathering.{loaded, bounded}
+use Rattle.pool_file.proofs.Gathering.{none, loaded, failed, not_loaded}
 use Rattle.pool_file.proofs.load_from.Goals as goal
 
-pub returns-clause-bound : goal.returns-clause-bound
-returns-clause-bound g c = bounded (loaded c.fill-end.ensures c.answer.ensures)
+pub returns-in_err-p : goal.returns-in_err-p
+returns-in_err-p g c = not_loaded _ c.from_residual.ensures.0 (none _)
 
-pub returns-clause-lent : goal.returns-clause-lent
-returns-clause-lent g c = loaded c.fill-end.ensures c.answer.ensures
+pub returns-in_err-all : goal.returns-in_err-all
+returns-in_err-all g c = not_loaded _ c.from_residual-in_err-all.ensures.0 (failed c.in_err-all.ensures)
+
+pub returns : goal.returns
+returns g c = loaded c.in_ok-all.ensures

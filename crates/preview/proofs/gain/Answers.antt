@@ -1,5 +1,4 @@
 -- `preview::gain` meets its contract. Assumes nothing.
-use borrow.Author.Rules.{rules}
 use borrow.Author.Tests.{le-leb, lt-leb}
 use lib.Ieee.{of_bits}
 use Rattle.preview.proofs.gain.Goals as goal

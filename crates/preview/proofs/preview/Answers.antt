@@ -1,15 +1,10 @@
 -- `preview::preview` meets its contract: the loop walks the run (`runs.specs.Turns`). Assumes nothing.
-use borrow.Author.Rules.{rules}
 use borrow.Author.Tests.{le-leb}
 use mathlib.Core.Path.{refl, sym}
 use native.Mathlib.Omega.{arith}
-use Prim.Native.Nat.{◌+◌, ◌-◌}
 use native.Mathlib.Nat.{add_assoc, add-zero}
 use lib.Ieee.{nan}
-use lib.ListN.{length}
-use Rattle.floats.specs.Arithmetic.{◌×ˢ◌}
-use Rattle.preview.specs.Preview.{gain_at}
-use Rattle.runs.specs.Turns.{Turns, start, turn, done}
+use Rattle.runs.specs.Turns.{start, turn, done}
 use Rattle.preview.proofs.preview.Goals as goal
 
 pub loop-i-init : goal.loop-i-init
@@ -18,7 +13,7 @@ loop-i-init c = rw (add-zero c.args.first) (start _ _ _ _)
 pub loop-i-preserved : goal.loop-i-preserved
 loop-i-preserved c =
     rw (c.gain.ensures, sym (add_assoc c.args.first c.loop-i.i 1))
-    (turn _ _ _ _ nan c.loop-i.invariant c.loop-i-test.true)
+    (turn _ _ _ _ nan c.loop-i.invariant (omega (arith, c.loop-i.auto.run, c.loop-i-test.true)))
 
 pub returns : goal.returns
-returns c = rw (le-leb c.args.first 1024 (omega arith)) (refl, done _ _ _ _ c.loop-i.invariant c.loop-i-test.false)
+returns c = rw (le-leb c.args.first 1024 (omega arith)) (refl, done _ _ _ _ c.loop-i.invariant (omega (arith, c.loop-i.auto.run, c.loop-i-test.false)))

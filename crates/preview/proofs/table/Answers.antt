@@ -2,9 +2,9 @@
 use mathlib.Core.Path.{◌≡◌, refl}
 use mathlib.Core.Bool.{Bool, ◌&&◌}
 use mathlib.Core.List.{List}
-use Prim.Native.Nat.{ℕ, ◌<◌}
+use Prim.Native.Nat.{ℕ}
 use lib.Dec.{T, eqb, eqb→eq}
-use lib.Ieee.{Float, nan, binary32, fits, to_bits, of_bits, add, sub, mul, neg, round}
+use lib.Ieee.{Float, nan, binary32, fits, to_bits, of_bits, round}
 use lib.Ieee.Fits.{and_l, and_r, mul-fits}
 use lib.ListN.{get_or}
 use Rattle.floats.specs.Arithmetic.{◌+ˢ◌, ◌-ˢ◌, ◌×ˢ◌, f32}

@@ -1,12 +1,8 @@
 -- `record_output::put_channels` meets its contract. Assumes nothing.
-use borrow.Author.Rules.{rules}
-use Rattle.record_output.specs.Bytes.{bytes_of}
-use Rattle.record_output.proofs.Listed.{Adding, turn, finish, same_out}
-use mathlib.Core.Path.{refl}
+use Prim.Native.Nat.{◌-◌}
+use Rattle.record_output.specs.Lines.{row_piece}
+use Rattle.record_output.proofs.Listed.{Adding}
 use Rattle.record_output.proofs.put_channels.Given as goal
 
-abbrev pub invariant-loop-left : goal.invariant-loop-left
-invariant-loop-left l = Adding (bytes_of l.row) l.channels l.initial.out l.at l.out l.to l.left
-
-abbrev pub decreases-loop-left : goal.decreases-loop-left
-decreases-loop-left l = l.left
+abbrev pub invariant-loop : goal.invariant-loop
+invariant-loop l = Adding (row_piece l.form l.row) l.channels l.initial.out l.at l.out l.to (l.channels - l.counter)

@@ -1,5 +1,5 @@
 -- `refusals::edit_limits` meets its contract. Assumes nothing.
-use Rattle.std.proofs.Common.{sym, ◌∙◌, ⊎_elim, rules}
+use Rattle.std.proofs.Common.{sym, ◌∙◌}
 use Rattle.refusals.specs.Refusals.{edit_limits}
 use Rattle.refusals.proofs.edit_limits.Goals as goal
 use Rattle.refusals.proofs.edit_limits.Goals.{else-within_end-via-then-within_end+else-within, else-within_end-via-else-within_end}

@@ -1,10 +1,11 @@
 -- `refusals::edit_refusal` meets its contract. Assumes nothing.
-use Rattle.std.proofs.Common.{◌≡◌, ℕ, Bool, true, false, cond, not, ◌&&◌, sym, refl, ◌∙◌, arith, rules}
+use Rattle.std.proofs.Common.{◌≡◌, ℕ, Bool, true, false, cond, not, ◌&&◌, sym, refl, ◌∙◌, arith}
 use lib.Ieee.{Float}
 use Rattle.event.specs.declared.EventId.{EventId}
 use Rattle.ledger.specs.Refusals.{within, within_end}
 use Rattle.lists.specs.declared.EditMap.{EditMap}
-use Rattle.lists.specs.declared.Found.{Found}
+use Rattle.std.specs.declared.option.Option.{Option}
+use Rattle.refusals.specs.Numbers.{number_is_positive, refused_is, taken_is}
 use Rattle.refusals.specs.Refusals.{edit_limits, edit_refusal, no_room}
 use Rattle.refusals.proofs.edit_refusal.Goals as goal
 
@@ -16,7 +17,7 @@ passes : (b : Bool) (k r : ℕ) → k ≡ cond b 8 0 → k ≡ 0 → r ≡ cond 
 passes true k r h z = absurd (omega arith)
 passes false k r h z = refl
 
-module _ (found : Found) (edits : EditMap) (θ : Float) (i : EventId) (end until fade_out : Float) (k : ℕ) (h : k ≡ edit_limits end fade_out) where
+module _ (found : Option ℕ) (edits : EditMap) (θ : Float) (i : EventId) (end until fade_out : Float) (k : ℕ) (h : k ≡ edit_limits end fade_out) where
   beyond : (k ≡ 0 → ⊥) → k ≡ edit_refusal found edits θ i end until fade_out
   unfolding edit_limits edit_refusal
   beyond some = fails (not (within_end end && within fade_out)) k _ h some
@@ -30,15 +31,15 @@ module _ (found : Found) (edits : EditMap) (θ : Float) (i : EventId) (end until
     unfolding edit_limits edit_refusal
     fine e = rw e (passes (not (within_end end && within fade_out)) k 0 h z)
 
-pub returns-then-no-ne0 : goal.returns-then-no-ne0
-returns-then-no-ne0 c = beyond _ _ _ _ _ _ _ _ c.edit_limits-no.ensures c.if-no-ne0.true
+pub returns-in-Some : goal.returns-in-Some
+returns-in-Some c =
+    let k = refused_is _ _ _ c.edit_limits.ensures c.in-Some.is in
+    beyond _ _ _ _ _ _ _ _ k.0 (λ z. let p = number_is_positive c.in-Some.refusal in omega (arith, z))
 
 pub returns-then-no_room : goal.returns-then-no_room
 returns-then-no_room c =
-    let l = c.before.before in
-    full _ _ _ _ _ _ _ _ l.edit_limits-no.ensures l.if-no-ne0.false (sym c.no_room.ensures ∙ c.if-no_room.true)
+    full _ _ _ _ _ _ _ 0 (sym (taken_is _ _ c.edit_limits.ensures c.in_default.is)) refl (sym c.no_room.ensures ∙ c.if-no_room.true)
 
 pub returns : goal.returns
 returns c =
-    let l = c.before.before in
-    fine _ _ _ _ _ _ _ _ l.edit_limits-no.ensures l.if-no-ne0.false (sym c.no_room.ensures ∙ c.if-no_room.false)
+    fine _ _ _ _ _ _ _ 0 (sym (taken_is _ _ c.edit_limits.ensures c.in_default.is)) refl (sym c.no_room.ensures ∙ c.if-no_room.false)

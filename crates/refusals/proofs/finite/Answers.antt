@@ -11,10 +11,10 @@ finite-test (inf true) b h = rw (← h)
 finite-test (inf false) b h = rw (← h)
 finite-test (fin s m e) b h = rw (← h)
 
-pub returns-then-x-top : goal.returns-then-x-top
+pub returns-then-x : goal.returns-then-x
 unfolding of_bits div round neg
-returns-then-x-top c = finite-test c.args.x true c.if-x-top.true
+returns-then-x c = finite-test c.args.x true c.if-x.true
 
-pub returns-else-x-top : goal.returns-else-x-top
+pub returns-else-x : goal.returns-else-x
 unfolding of_bits div round neg
-returns-else-x-top c = c.if-x-top.false ∙ finite-test c.args.x false c.if-x-top.false
+returns-else-x c = c.if-x.false ∙ finite-test c.args.x false c.if-x.false

@@ -1,6 +1,5 @@
 -- `refusals::process_refusal` meets its contract. Assumes nothing.
-use Rattle.std.proofs.Common.{◌≡◌, ◌/◌, ◌%◌, true, ◌&&◌, eqb, ⊎_elim, rules, le-ltb, lt-ltb, eq-eqb, ne_eqb}
-use borrow.Author.Tests.{not-false}
+use Rattle.std.proofs.Common.{◌≡◌, ◌/◌, ◌%◌, true, ◌&&◌, eqb, le-ltb, lt-ltb, eq-eqb, ne_eqb}
 use lib.Ieee.{of_bits, of_int, round}
 use Rattle.floats.specs.Arithmetic.{whole}
 use Rattle.refusals.specs.Refusals.{process_refusal}

@@ -1,6 +1,6 @@
 -- `refusals::push_refusal` meets its contract. Assumes nothing.
-use Rattle.std.proofs.Common.{◌≡◌, true, cond, not, ◌&&◌, eqb, leb, sym, ◌∙◌, ⊎_elim, rules, eq-eqb, ne_eqb, le-leb}
-use borrow.Author.Tests.{lt-leb, not-true, not-false}
+use Rattle.std.proofs.Common.{◌≡◌, true, cond, not, ◌&&◌, eqb, leb, sym, ◌∙◌, eq-eqb, ne_eqb, le-leb}
+use borrow.Author.Tests.{lt-leb}
 use lib.Ieee.Scale.{finite}
 use Rattle.ledger.specs.Refusals.{within, within_end, finite_source}
 use Rattle.refusals.specs.Refusals.{push_refusal}

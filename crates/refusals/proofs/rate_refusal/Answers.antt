@@ -1,6 +1,5 @@
 -- `refusals::rate_refusal` meets its contract. Assumes nothing.
 use lib.Ieee.{of_bits, round}
-use Rattle.std.proofs.Common.{⊎_elim}
 use Rattle.floats.specs.Arithmetic.{whole}
 use Rattle.refusals.specs.Refusals.{rate_refusal}
 use Rattle.refusals.proofs.rate_refusal.Goals as goal

@@ -1,5 +1,5 @@
 -- `refusals::times_within` meets its contract. Assumes nothing.
-use Rattle.std.proofs.Common.{◌≡◌, ◌&&◌, sym, ◌∙◌, ⊎_elim, rules}
+use Rattle.std.proofs.Common.{◌≡◌, ◌&&◌, sym, ◌∙◌}
 use Rattle.ledger.specs.Refusals.{within, within_end}
 use Rattle.refusals.proofs.times_within.Goals as goal
 use Rattle.refusals.proofs.times_within.Goals.{Joined-within, Joined-within_end, then-within, else-within, then-within_end, else-within_end}

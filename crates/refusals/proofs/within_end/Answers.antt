@@ -1,5 +1,5 @@
 -- `refusals::within_end` meets its contract. Assumes nothing.
-use Rattle.std.proofs.Common.{◌≡◌, Bool, true, false, ◌||◌, sym, ◌∙◌, rules}
+use Rattle.std.proofs.Common.{◌≡◌, Bool, true, false, ◌||◌, sym, ◌∙◌}
 use lib.Ieee.{Float, nan, inf, fin, of_bits, round, div, eq}
 use Rattle.ledger.specs.Refusals.{within, within_end}
 use Rattle.refusals.proofs.within_end.Goals as goal

@@ -1,9 +1,11 @@
--- `rises::is_size` meets its contract.
-use Rattle.rises.proofs.Sizes.{size_zero, size_above}
+use Rattle.std.proofs.Common.{lt-ltb, le-ltb}
+use Rattle.rises.specs.Answers.{is_size}
 use Rattle.rises.proofs.is_size.Goals as goal
 
-pub returns-then-n-eq0 : goal.returns-then-n-eq0
-returns-then-n-eq0 c = size_zero _ c.if-n-eq0.true
+pub returns-then-n-gt0 : goal.returns-then-n-gt0
+unfolding is_size
+returns-then-n-gt0 c = rw (lt-ltb 0 _ c.if-n-gt0.true)
 
-pub returns : goal.returns
-returns c = size_above _ c.if-n-eq0.false
+pub returns-else-n-gt0 : goal.returns-else-n-gt0
+unfolding is_size
+returns-else-n-gt0 c = rw (le-ltb 0 _ c.if-n-gt0.false)

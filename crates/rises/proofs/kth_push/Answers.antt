@@ -1,9 +1,9 @@
 -- `rises::kth_push` meets its contract. Assumes nothing.
-use Rattle.std.proofs.Common.{◌≡◌, ℕ, ◌-◌, pos, sym, ◌∙◌, ap₂, rules}
+use Rattle.std.proofs.Common.{◌≡◌, ℕ, ◌-◌, pos, sym, ◌∙◌, ap₂}
 use lib.Ieee.{Float, binary64, of_int, of_bits}
 use Rattle.event.specs.declared.Fade.TheVariants.{Smooth}
 use Rattle.event.specs.declared.Source.TheVariants.{Held}
-use Rattle.floats.specs.Arithmetic.{zeroᶠ, oneᶠ, whole}
+use Rattle.floats.specs.Arithmetic.{zeroᶠ, oneᶠ}
 use Rattle.floats.specs.WholeIs.{whole_is}
 use Rattle.tape.specs.declared.reader.PushRecord.{PushRecord}
 use Rattle.rises.specs.Arrangement.{kth_push}
@@ -18,4 +18,4 @@ is-kth n k x y p q = ap₂ given (p ∙ sym (whole_is (n - k))) (q ∙ sym (whol
 
 pub returns : goal.returns
 unfolding of_bits
-returns c = is-kth _ _ _ _ c.nearest_u64_to_f64-start.ensures c.nearest_u64_to_f64-end.ensures
+returns c = is-kth _ _ _ _ c.nearest_u64_to_f64.ensures c.nearest_u64_to_f64-2.ensures

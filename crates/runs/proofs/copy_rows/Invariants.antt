@@ -1,13 +1,7 @@
 -- `runs::copy_rows` meets its contract. Assumes nothing.
-use borrow.Author.Rules.{rules}
-use Prim.Native.Nat.{◌-◌}
-use native.Mathlib.Omega.{arith}
-use lib.ListN.{length}
-use Rattle.runs.proofs.Rows.{Rows, rows_start, rows-turn, rows_done}
+use Prim.Native.Nat.{◌*◌}
+use Rattle.runs.proofs.Rows.{Rows}
 use Rattle.runs.proofs.copy_rows.Given as goal
 
-abbrev pub invariant-loop-out : goal.invariant-loop-out
-invariant-loop-out l = Rows l.run l.initial.out l.at l.out
-
-abbrev pub decreases-loop-out : goal.decreases-loop-out
-decreases-loop-out l = length l.initial.out - l.at
+abbrev pub invariant-loop-channel : goal.invariant-loop-channel
+invariant-loop-channel l = Rows l.run l.initial.out (64 * l.channel) l.out

@@ -7,7 +7,6 @@ use lib.Ieee.{Float}
 use lib.ListN.{length, take, drop, length-drop, take-append-drop}
 use Rattle.ledger.specs.BlockSamples.{faded_all, faded}
 use Rattle.runs.proofs.Walks.{front_cut}
-use borrow.Author.Rules.{rules}
 use Rattle.runs.proofs.fade.Goals as goal
 
 pub returns-then-from-end : goal.returns-then-from-end
@@ -15,8 +14,8 @@ unfolding faded
 returns-then-from-end c =
     let a = c.args in
     let l = a.s.now in
-    let m = c.least-end.result in
-    let h : m - a.from ≡ min (a.to - a.from) (length (drop a.from l)) = simp length-drop (omega (arith, c.least-end.ensures)) in
+    let m = c.min-end.result in
+    let h : m - a.from ≡ min (a.to - a.from) (length (drop a.from l)) = simp length-drop (omega (arith, c.min-end.ensures)) in
     rw c.fade_all.ensures
     (ap (λ (r : List Float). take a.from l ++ r) (front_cut (faded_all a.ease a.rising a.phase a.step) (a.to - a.from) (m - a.from) (drop a.from l) h))
 
@@ -25,6 +24,6 @@ unfolding faded faded_all
 returns-else-from-end c =
     let a = c.args in
     let l = a.s.now in
-    let h : 0 ≡ min (a.to - a.from) (length (drop a.from l)) = simp length-drop (omega (arith, c.least-end.ensures)) in
+    let h : 0 ≡ min (a.to - a.from) (length (drop a.from l)) = simp length-drop (omega (arith, c.min-end.ensures)) in
     sym (take-append-drop a.from l)
     ∙ ap (λ (r : List Float). take a.from l ++ r) (front_cut (faded_all a.ease a.rising a.phase a.step) (a.to - a.from) 0 (drop a.from l) h)

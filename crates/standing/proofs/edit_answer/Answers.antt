@@ -1,7 +1,6 @@
-use mathlib.Core.Path.{◌≡◌, refl, sym, ap, ◌∙◌}
+use mathlib.Core.Path.{ap}
 use Rattle.sequencer.specs.declared.Outcome.{Outcome}
 use Rattle.standing.specs.Standings.{edit_answer}
-use borrow.Author.Rules.{rules}
 use Rattle.standing.proofs.edit_answer.Goals as goal
 
 pub returns-then-relative : goal.returns-then-relative

@@ -1,6 +1,5 @@
-use mathlib.Core.Path.{◌≡◌, refl, sym, ap, ◌∙◌}
+use mathlib.Core.Path.{refl, sym, ◌∙◌}
 use Rattle.standing.specs.Standings.{standing_in}
-use borrow.Author.Rules.{rules}
 use Rattle.standing.proofs.standing_of.Goals as goal
 
 pub returns-then-has : goal.returns-then-has

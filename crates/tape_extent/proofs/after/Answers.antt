@@ -1,10 +1,11 @@
 -- `tape_extent::after` meets its contract. Assumes nothing.
-use Rattle.std.proofs.Common.{◌≡◌, sym, ap, ◌∙◌, rules}
+use Rattle.std.proofs.Common.{◌≡◌, sym, ap, ◌∙◌}
 use lib.Ieee.{of_bits}
 use Rattle.tape.specs.declared.reader.Call.{Call}
 use Rattle.tape_extent.specs.declared.Pace.{Pace}
 use Rattle.tape_extent.specs.declared.Paced.{Paced}
 use Rattle.tape_extent.specs.Paces.{soundless, paced}
+use mathlib.Core.Logic.{inl, inr}
 use Rattle.tape_extent.proofs.after.Goals as goal
 
 -- what an arm shows of its call m holds of the call that came
@@ -17,23 +18,13 @@ returns-in-Create c = of_arm c.args.p c.in-Create.is c.create.ensures
 
 pub returns-in-Push : goal.returns-in-Push
 unfolding paced
-returns-in-Push c = of_arm c.args.p c.in-Push.is c.without_samples.ensures
-
-pub returns-in-PushRelative : goal.returns-in-PushRelative
-unfolding paced
-returns-in-PushRelative c = of_arm c.args.p c.in-PushRelative.is c.without_samples-in-PushRelative.ensures
-
-pub returns-in-PushDuration : goal.returns-in-PushDuration
-unfolding paced
-returns-in-PushDuration c = of_arm c.args.p c.in-PushDuration.is c.without_samples-in-PushDuration.ensures
-
-pub returns-in-Edit : goal.returns-in-Edit
-unfolding paced
-returns-in-Edit c = of_arm c.args.p c.in-Edit.is c.without_samples-in-Edit.ensures
-
-pub returns-in-EditRelative : goal.returns-in-EditRelative
-unfolding paced
-returns-in-EditRelative c = of_arm c.args.p c.in-EditRelative.is c.without_samples-in-EditRelative.ensures
+returns-in-Push c =
+    let p = c.args.p in
+    let q = c.without_samples.ensures in
+    elim c.in-Push.is [
+      | inl x ↦ of_arm p x.1 q
+      | inr r ↦ elim r [ inl x ↦ of_arm p x.1 q | inr r ↦ elim r [ inl x ↦ of_arm p x.1 q | inr r ↦ elim r [ inl x ↦ of_arm p x.1 q | inr x ↦ of_arm p x.1 q ] ] ]
+    ]
 
 pub returns-in-Tick : goal.returns-in-Tick
 returns-in-Tick c = of_arm c.args.p c.in-Tick.is c.tick.ensures

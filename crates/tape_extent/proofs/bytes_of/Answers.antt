@@ -1,5 +1,5 @@
 -- `tape_extent::bytes_of` meets its contract. Assumes nothing.
-use Rattle.std.proofs.Common.{◌*◌, ◌≤◌, mul-le-mul, arith, rules}
+use Rattle.std.proofs.Common.{◌*◌, ◌≤◌, mul-le-mul, arith}
 use Rattle.tape_extent.proofs.bytes_of.Goals as goal
 use Rattle.tape_extent.proofs.bytes_of.Goals.{Start}
 

@@ -1,5 +1,5 @@
 -- `tape_extent::create` meets its contract. Assumes nothing.
-use Rattle.std.proofs.Common.{sym, ◌∙◌, rules}
+use Rattle.std.proofs.Common.{sym, ◌∙◌}
 use Rattle.tape_extent.proofs.create.Goals as goal
 
 pub returns-then-accepts_creation : goal.returns-then-accepts_creation

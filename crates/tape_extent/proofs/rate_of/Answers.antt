@@ -1,5 +1,5 @@
 -- `tape_extent::rate_of` meets its contract. Assumes nothing.
-use Rattle.std.proofs.Common.{rules, eq-eqb, ne_eqb}
+use Rattle.std.proofs.Common.{eq-eqb, ne_eqb}
 use Rattle.tape_extent.proofs.rate_of.Goals as goal
 
 pub returns-then-n-eq0 : goal.returns-then-n-eq0

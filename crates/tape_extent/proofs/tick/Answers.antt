@@ -1,9 +1,7 @@
 -- `tape_extent::tick` meets its contract. Assumes nothing.
 use Rattle.tape_extent.specs.Paces.{paced}
-use Rattle.std.proofs.Common.{ap, ◌∙◌, rules}
-use Rattle.tape_extent.specs.Paces.{rendering}
 use Rattle.tape_extent.proofs.tick.Goals as goal
 
 pub returns : goal.returns
 unfolding paced
-returns c = rw (c.rendered.ensures, c.tick_refusal-no.ensures)
+returns c = rw (c.rendered.ensures, c.tick_refusal-refusal.ensures)

@@ -19,7 +19,7 @@ pub returns : goal.returns
 unfolding bar
 returns c =
     let e1 = c.put_numbered-to.ensures in
-    let e2 = named _ (ap (λ (n : ℕ). ascii " " ∷ decimal n ∷ []) (c.less-top.ensures ∙ ap (λ (z : ℕ). c.args.middle - z) c.height-h.ensures.value)) c.put_numbered-to-2.ensures in
+    let e2 = named _ (ap (λ (n : ℕ). ascii " " ∷ decimal n ∷ []) (c.saturating_sub-top.ensures ∙ ap (λ (z : ℕ). c.args.middle - z) c.height-h.ensures.value)) c.put_numbered-to-2.ensures in
     let e3 = named _ (ap (λ (n : ℕ). ascii "v" ∷ decimal (n + n + 1) ∷ []) c.height-h.ensures.value) c.put_numbered.ensures in
     let r = further _ _ _ e1 (further _ _ _ e2 e3) in
     named _ (rw (ne_eqb _ _ c.if-bits-eq0.false) refl) r

@@ -23,7 +23,7 @@ returns c =
     let e4 = c.put_call_at-to.ensures in
     let e5 = one _ _ c.put_bytes-to-2.ensures in
     let e6 = named _ (ap (λ (n : ℕ). open_path (ascii "c") n 176) c.x-x.ensures.value) c.put_open_path-to.ensures in
-    let e7 = named _ (ap (λ (n : ℕ). ascii "v" ∷ decimal n ∷ []) (c.less-height.ensures ∙ ap (λ (z : ℕ). z - 176) c.lanes_end.ensures.value)) c.put_numbered-to.ensures in
+    let e7 = named _ (ap (λ (n : ℕ). ascii "v" ∷ decimal n ∷ []) (c.saturating_sub-height.ensures ∙ ap (λ (z : ℕ). z - 176) c.lanes_end.ensures.value)) c.put_numbered-to.ensures in
     let e8 = one _ _ c.put_bytes.ensures in
     let r = further _ _ _ e1 (further _ _ _ e2 (further _ _ _ e3 (further _ _ _ e4 (further _ _ _ e5 (further _ _ _ e6 (further _ _ _ e7 e8)))))) in
     r

@@ -11,7 +11,7 @@ pub returns : goal.returns
 unfolding edited_lane
 returns c =
     let a = c.args in
-    let y = c.lane-y.ensures.value ∙ ap lane_of c.less-i.ensures in
+    let y = c.lane-y.ensures.value ∙ ap lane_of c.saturating_sub-i.ensures in
     let e1 = named _ (ap (λ (n : ℕ). open_path (ascii "d") n (c.lane-y.result + 5)) c.x-x.ensures.value ∙ ap (λ (n : ℕ). open_path (ascii "d") (x_of a.time a.total) (n + 5)) y) c.put_open_path-to.ensures in
     let e2 = one _ _ c.put_bytes-to.ensures in
     let e3 = c.put_edit_title-to.ensures in

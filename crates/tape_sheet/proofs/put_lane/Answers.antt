@@ -1,4 +1,6 @@
 use mathlib.Core.Path.{ap, ◌∙◌}
+use mathlib.Core.Bool.{Bool, cond}
+use mathlib.Core.List.{[], ◌∷◌}
 use Prim.Native.Nat.{ℕ, ◌+◌, ◌-◌}
 use Rattle.listing.specs.Ascii.{ascii}
 use Rattle.chart.specs.Scale.{x_of, lane_of}
@@ -17,8 +19,8 @@ pub returns : goal.returns
 unfolding lane
 returns c =
     let a = c.args in
-    let y = c.lane-y.ensures.value ∙ ap lane_of c.less-i.ensures in
-    let x = c.less-left.ensures ∙ ap (λ (z : ℕ). z - 6) c.x.ensures.value in
+    let y = c.lane-y.ensures.value ∙ ap lane_of c.saturating_sub-i.ensures in
+    let x = c.saturating_sub-left.ensures ∙ ap (λ (z : ℕ). z - 6) c.x.ensures.value in
     let e1 = named _ (ap (λ (n : ℕ). open_path (ascii "l") 170 (n + 10)) y) c.put_open_path-to.ensures in
     let e2 = one _ _ c.put_bytes-to.ensures in
     let e3 = named _ (ap (λ (n : ℕ). open_text (ascii "n") 162 (n + 14)) y) c.put_open_text-to.ensures in
@@ -27,7 +29,7 @@ returns c =
     let e6 = named _ (ap (λ (n : ℕ). open_path (ascii "p") n (c.lane-y.result + 5)) x ∙ ap (λ (n : ℕ). open_path (ascii "p") (x_of a.time a.total - 6) (n + 5)) y) c.put_open_path-to-2.ensures in
     let e7 = c.put_numbered-to.ensures in
     let e8 = c.put_timed-to.ensures in
-    let e9 = one _ _ c.put_either-to.ensures in
+    let e9 = named _ (ap (λ (b : Bool). cond b (ascii ", straight to sounding") (ascii ", waits") ∷ []) c.is_sounding.ensures) (one _ _ c.put_either-to.ensures) in
     let e10 = one _ _ c.put_bytes.ensures in
     let rest = further _ _ _ e9 e10 in
     let r = further _ _ _ e1 (further _ _ _ e2 (further _ _ _ e3 (further _ _ _ e4 (further _ _ _ e5 (further _ _ _ e6 (further _ _ _ e7 (further _ _ _ e8 rest))))))) in

@@ -17,7 +17,7 @@ pub returns : goal.returns
 unfolding segment
 returns c =
     let a = c.args in
-    let y = c.lane-y.ensures.value ∙ ap lane_of c.less-i.ensures in
+    let y = c.lane-y.ensures.value ∙ ap lane_of c.saturating_sub-i.ensures in
     let b =
     ap (λ (n : ℕ). standing a.place n c.lane-y.result c.breadth-width.result) c.x-x.ensures.value
     ∙ ap (λ (n : ℕ). standing a.place (x_of a.from a.total) n c.breadth-width.result) y

@@ -10,6 +10,6 @@ pub returns : goal.returns
 unfolding rate_text
 returns c =
     let e1 = one _ _ c.put_bytes-to.ensures in
-    let e2 = named _ (ap (λ (y¹ : ℕ). thousandths_text y¹) c.thousandths-n.ensures) c.put_thousandths.ensures in
+    let e2 = named _ (ap (λ (y¹ : ℕ). thousandths_text y¹) c.thousandths.ensures) c.put_thousandths.ensures in
     let r = further _ _ _ e1 e2 in
     r

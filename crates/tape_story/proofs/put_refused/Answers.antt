@@ -1,20 +1,19 @@
-use mathlib.Core.Path.{refl}
-use borrow.Author.Tests.{eq-eqb, ne_eqb}
+use mathlib.Core.Path.{refl, sym, ap}
 use Rattle.listing.specs.Pieces.{add_all}
 use Rattle.tape_words.specs.Joining.{one, further, named}
-use Rattle.tape_story.specs.Lines.{refused_text}
+use Rattle.tape_story.specs.Asides.{refused_text}
 use borrow.Author.Rules.{rules}
 use Rattle.tape_story.proofs.put_refused.Goals as goal
 
-pub returns-then-refusal-eq0 : goal.returns-then-refusal-eq0
-unfolding add_all refused_text
-returns-then-refusal-eq0 c = rw (eq-eqb _ _ c.if-refusal-eq0.true) refl
-
-pub returns : goal.returns
+pub returns-in-Some : goal.returns-in-Some
 unfolding refused_text
-returns c =
-    let a = c.args in
+returns-in-Some c =
     let e1 = one _ _ c.put_bytes-to.ensures in
     let e2 = c.put_refusal.ensures in
     let r = further _ _ _ e1 e2 in
-    named _ (rw (ne_eqb _ _ c.if-refusal-eq0.false) refl) r
+    named _ (ap refused_text (sym c.in-Some.is)) r
+
+pub returns-in-None : goal.returns-in-None
+unfolding add_all refused_text
+returns-in-None c =
+    named _ (ap refused_text (sym c.in-None.is)) refl

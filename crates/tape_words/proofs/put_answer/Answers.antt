@@ -1,9 +1,21 @@
-use mathlib.Core.Path.{sym, ap}
+use Rattle.std.proofs.Common.{◌≡◌, ◌⊎◌, [], ◌∷◌, sym, ap, inl, inr}
+use Rattle.event.specs.declared.EventId.{EventId}
+use Rattle.event.specs.declared.Placings.{Placings}
+use Rattle.sequencer.specs.declared.Answer.{Answer}
+use Rattle.sequencer.specs.declared.Answer.TheVariants.{Number, Done, Rendered}
+use Rattle.listing.specs.Ascii.{ascii}
 use Rattle.listing.specs.Pieces.{add_all}
 use Rattle.tape_words.specs.Words.{answer_text}
 use Rattle.tape_words.specs.Joining.{one, named}
 use borrow.Author.Rules.{rules}
 use Rattle.tape_words.proofs.put_answer.Goals as goal
+
+-- three answers are done
+is_done : (told : Answer) → (told ≡ Done) ⊎ (((n : EventId) × (told ≡ Number n)) ⊎ ((p : Placings) × (told ≡ Rendered p))) → answer_text told ≡ ascii "done" ∷ []
+unfolding answer_text
+is_done told (inl e) = ap answer_text e
+is_done told (inr (inl (n, e))) = ap answer_text e
+is_done told (inr (inr (p, e))) = ap answer_text e
 
 pub returns-in-Applied : goal.returns-in-Applied
 unfolding add_all answer_text
@@ -23,17 +35,7 @@ returns-in-Stored c =
 pub returns-in-Done : goal.returns-in-Done
 unfolding add_all answer_text
 returns-in-Done c =
-    named _ (ap answer_text (sym c.in-Done.is)) c.put_bytes-in-Done.ensures
-
-pub returns-in-Number : goal.returns-in-Number
-unfolding add_all answer_text
-returns-in-Number c =
-    named _ (ap answer_text (sym c.in-Number.is)) c.put_bytes-in-Number.ensures
-
-pub returns-in-Rendered : goal.returns-in-Rendered
-unfolding add_all answer_text
-returns-in-Rendered c =
-    named _ (ap answer_text (sym c.in-Rendered.is)) c.put_bytes-in-Rendered.ensures
+    named _ (sym (is_done c.args.told c.in-Done.is)) c.put_bytes-in-Done.ensures
 
 pub returns-in-Refused : goal.returns-in-Refused
 unfolding add_all answer_text

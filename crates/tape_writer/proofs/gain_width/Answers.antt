@@ -1,6 +1,5 @@
 -- `tape_writer::gain_width` meets its contract. Assumes nothing.
 use mathlib.Core.Path.{sym, ◌∙◌}
-use borrow.Author.Rules.{rules}
 use Rattle.tape_writer.proofs.gain_width.Goals as goal
 
 pub returns-then-has_gain : goal.returns-then-has_gain

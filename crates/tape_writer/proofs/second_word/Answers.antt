@@ -1,6 +1,5 @@
 -- `tape_writer::second_word` meets its contract. Assumes nothing.
 use borrow.Author.Tests.{ne_eqb}
-use borrow.Author.Rules.{rules}
 use Rattle.tape_writer.specs.Writing.{source_from}
 use Rattle.tape_writer.proofs.second_word.Goals as goal
 

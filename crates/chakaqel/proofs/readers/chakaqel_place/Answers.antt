@@ -3,8 +3,8 @@ use mathlib.Core.Path.{sym, ◌∙◌}
 use borrow.Author.Rules.{rules}
 use Rattle.chakaqel.proofs.readers.chakaqel_place.Goals as goal
 
-pub returns-in-At : goal.returns-in-At
-returns-in-At c = rw (sym c.place-found.ensures ∙ c.in-At.is)
+pub returns-in-Some : goal.returns-in-Some
+returns-in-Some c = rw (sym c.place-found.ensures ∙ c.in-Some.is)
 
-pub returns-in-Nothing : goal.returns-in-Nothing
-returns-in-Nothing c = rw (sym c.place-found.ensures ∙ c.in-Nothing.is)
+pub returns-in-None : goal.returns-in-None
+returns-in-None c = rw (sym c.place-found.ensures ∙ c.in-None.is)

@@ -1,21 +1,20 @@
 -- `chakaqel::rendering::chakaqel_process` meets its contract.
 use mathlib.Core.Path.{refl}
-use borrow.Author.Tests.{lt-ltb, le-ltb}
 use Rattle.memory.specs.Memory.{cells_of}
 use Rattle.chakaqel.specs.Entries.{order_of, unknown_mark}
-use Rattle.chakaqel.proofs.Codes.{rendered-entry}
+use Rattle.chakaqel.proofs.Codes.{unknown_is, known-is, rendered-entry}
 use borrow.Author.Rules.{rules}
 use Rattle.chakaqel.proofs.rendering.chakaqel_process.Goals as goal
 
-pub returns-then-mark-gt1 : goal.returns-then-mark-gt1
-returns-then-mark-gt1 c = rw (lt-ltb _ _ c.if-mark-gt1.true) (record { engine = refl; samples = refl; answer = refl; places = refl; refused = λ h. refl })
+pub returns-in_default : goal.returns-in_default
+returns-in_default c = rw (unknown_is (order_of c.args.mark) _ (unknown_mark c.args.mark) c.order_of.ensures c.in_default.is) (record { engine = refl; samples = refl; answer = refl; places = refl; refused = λ h. refl })
 
 pub returns : goal.returns
 returns c =
     let a = c.args in
-    let known = le-ltb _ _ c.if-mark-gt1.false in
+    let k = known-is (order_of a.mark) _ (unknown_mark a.mark) c.order_of.ensures _ c.in-Some.is in
     let e = c.process-answer.ensures in
     let t = c.tell_block.ensures in
-    let r = rendered-entry (cells_of a.times.now a.levels.now a.marks.now a.numbers.now) _ (unknown_mark a.mark) known (order_of a.mark) _
-    c.order_of.ensures a.pool.now a.size a.out.now _ _ (e.engine, (e.samples, (e.answer, e.refused))) _ a.places.now _ (t.code, t.places) in
+    let r = rendered-entry (cells_of a.times.now a.levels.now a.marks.now a.numbers.now) _ (unknown_mark a.mark) k.0 (order_of a.mark) _
+    k.1 a.pool.now a.size a.out.now _ _ (e.engine, (e.samples, (e.answer, e.refused))) _ a.places.now _ (t.code, t.places) in
     record { engine = r.0; samples = r.1.0; answer = r.1.1.0; places = r.1.1.1.0; refused = r.1.1.1.1 }

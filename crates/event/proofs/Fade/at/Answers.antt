@@ -1,5 +1,4 @@
 -- `event::Fade::at` meets its contract. Assumes nothing.
-use Rattle.std.proofs.Common.{rules}
 use Rattle.event.specs.Fades.{curve}
 use Rattle.event.proofs.Fade.at.Goals as goal
 

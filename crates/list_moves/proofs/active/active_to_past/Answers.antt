@@ -1,7 +1,6 @@
 -- `list_moves::active::active_to_past` meets its contract.
-use Rattle.std.proofs.Common.{◌≡◌, ◌-◌, ◌≤◌, sym, refl, ◌∙◌, arith, rules}
-use Rattle.sequencer.specs.Moves.{active_to_past}
-use Rattle.sequencer.specs.Turns.{Finishing, finished_end}
+use Rattle.std.proofs.Common.{sym, refl, ◌∙◌, arith}
+use Rattle.sequencer.specs.Turns.{finished_end}
 use Rattle.memory.specs.Memory.{cells_of, engine_of}
 use Rattle.memory.specs.Laws.{counts_are}
 use Rattle.list_moves.proofs.Sweeping.{sweep-starts, sweeps_on, sweeps_off, sweep-beyond, kept_len}

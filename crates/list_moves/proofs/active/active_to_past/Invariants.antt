@@ -1,10 +1,8 @@
 -- `list_moves::active::active_to_past` meets its contract.
-use Rattle.std.proofs.Common.{◌≡◌, ◌-◌, ◌≤◌, sym, refl, ◌∙◌, arith, rules}
+use Rattle.std.proofs.Common.{◌≡◌, ◌-◌, ◌≤◌}
 use Rattle.sequencer.specs.Moves.{active_to_past}
-use Rattle.sequencer.specs.Turns.{Finishing, finished_end}
+use Rattle.sequencer.specs.Turns.{Finishing}
 use Rattle.memory.specs.Memory.{cells_of, engine_of}
-use Rattle.memory.specs.Laws.{counts_are}
-use Rattle.list_moves.proofs.Sweeping.{sweep-starts, sweeps_on, sweeps_off, sweep-beyond, kept_len}
 use Rattle.list_moves.proofs.active.active_to_past.Given as goal
 
 abbrev pub invariant-loop-i : goal.invariant-loop-i

@@ -1,5 +1,5 @@
 -- `list_moves::active::append` meets its contract.
-use Rattle.std.proofs.Common.{refl, rules}
+use Rattle.std.proofs.Common.{refl}
 use Rattle.memory.specs.Memory.{cells_of}
 use Rattle.list_moves.proofs.Sweeping.{sounds_too, full-sounds}
 use Rattle.list_moves.proofs.active.append.Goals as goal

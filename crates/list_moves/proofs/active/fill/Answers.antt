@@ -1,5 +1,5 @@
 -- `list_moves::active::fill` meets its contract.
-use Rattle.std.proofs.Common.{refl, arith, rules}
+use Rattle.std.proofs.Common.{refl, arith}
 use Rattle.memory.specs.Memory.{cells_of}
 use Rattle.list_moves.proofs.Sweeping.{filled}
 use Rattle.list_moves.proofs.active.fill.Goals as goal

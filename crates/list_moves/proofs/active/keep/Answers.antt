@@ -1,5 +1,5 @@
 -- `list_moves::active::keep` meets its contract.
-use Rattle.std.proofs.Common.{refl, rules}
+use Rattle.std.proofs.Common.{refl}
 use Rattle.memory.specs.Memory.{cells_of}
 use Rattle.list_moves.proofs.Sweeping.{kept-room, below, above}
 use Rattle.list_moves.proofs.active.keep.Goals as goal

@@ -1,5 +1,5 @@
 -- `list_moves::active::place` meets its contract.
-use Rattle.std.proofs.Common.{◌∙◌, rules}
+use Rattle.std.proofs.Common.{◌∙◌}
 use Rattle.memory.specs.Memory.{cells_of}
 use Rattle.memory.specs.Edits.{sounding_found}
 use Rattle.list_moves.proofs.active.place.Goals as goal

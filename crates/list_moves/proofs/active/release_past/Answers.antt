@@ -1,5 +1,5 @@
 -- `list_moves::active::release_past` meets its contract.
-use Rattle.std.proofs.Common.{rules, ne_eqb}
+use Rattle.std.proofs.Common.{refl, ne_eqb}
 use Rattle.memory.specs.Memory.{cells_of}
 use Rattle.list_moves.proofs.Sweeping.{kept-all, let_go}
 use Rattle.list_moves.proofs.active.release_past.Goals as goal
@@ -12,4 +12,4 @@ returns-then-numbers-eq0 c =
 pub returns : goal.returns
 returns c =
     let a = c.args in
-    let_go (cells_of a.times.now a.levels.now a.marks.now a.numbers.now) _ c.sized.ensures (ne_eqb _ 0 c.if-numbers-eq0.false) c.wrapping_add_u64.ensures.value
+    let_go (cells_of a.times.now a.levels.now a.marks.now a.numbers.now) _ c.sized.ensures (ne_eqb _ 0 c.if-numbers-eq0.false) refl

@@ -1,5 +1,5 @@
 -- `list_moves::edits::find_edit` meets its contract.
-use Rattle.std.proofs.Common.{◌∙◌, rules}
+use Rattle.std.proofs.Common.{◌∙◌}
 use Rattle.memory.specs.Memory.{cells_of}
 use Rattle.memory.specs.Edits.{edit-found}
 use Rattle.list_moves.proofs.edits.find_edit.Goals as goal

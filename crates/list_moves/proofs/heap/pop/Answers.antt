@@ -1,20 +1,19 @@
 -- `list_moves::heap::pop` meets its contract.
-use Rattle.std.proofs.Common.{◌≡◌, ◌-◌, ◌<◌, ◌≤◌, sym, refl, ◌∙◌, arith, rules}
-use Rattle.sequencer.specs.Rounds.{last_place, last_of, SinkingIn, sinking_in}
+use Rattle.std.proofs.Common.{refl, ◌∙◌, arith, rules}
+use Rattle.sequencer.specs.Rounds.{sinking_in}
 use Rattle.memory.specs.Memory.{cells_of, engine_of}
-use Rattle.memory.specs.Laws.{Sized}
 use Rattle.list_moves.proofs.Rising.{last-is, sinks_on, pops, none-pops, beyond-pops}
 use Rattle.list_moves.proofs.heap.pop.Goals as goal
+use Rattle.list_moves.proofs.heap.pop.Goals.{then-n-eq0-via-then-n-eq0, then-n-eq0-via-else-n-eq0+then-n-gt-ROOM}
 
 pub returns-then-n-eq0 : goal.returns-then-n-eq0
 returns-then-n-eq0 c =
     let a = c.args in
-    none-pops (cells_of a.times.now a.levels.now a.marks.now a.numbers.now) _ refl c.if-n-eq0.true
-
-pub returns-then-n-gt-ROOM : goal.returns-then-n-gt-ROOM
-returns-then-n-gt-ROOM c =
-    let a = c.args in
-    beyond-pops (cells_of a.times.now a.levels.now a.marks.now a.numbers.now) _ refl c.if-n-gt-ROOM.true
+    let here = cells_of a.times.now a.levels.now a.marks.now a.numbers.now in
+    elim c.then-n-eq0.branch [
+      | then-n-eq0-via-then-n-eq0 w ↦ none-pops here _ refl w.if-n-eq0.true
+      | then-n-eq0-via-else-n-eq0+then-n-gt-ROOM w ↦ beyond-pops here _ refl w.if-n-gt-ROOM.true
+    ]
 
 pub loop-i-init : goal.loop-i-init
 loop-i-init c =

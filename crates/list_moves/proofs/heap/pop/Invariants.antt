@@ -1,9 +1,8 @@
 -- `list_moves::heap::pop` meets its contract.
-use Rattle.std.proofs.Common.{◌≡◌, ◌-◌, ◌<◌, ◌≤◌, sym, refl, ◌∙◌, arith, rules}
-use Rattle.sequencer.specs.Rounds.{last_place, last_of, SinkingIn, sinking_in}
+use Rattle.std.proofs.Common.{◌≡◌, ◌-◌, ◌<◌, ◌≤◌}
+use Rattle.sequencer.specs.Rounds.{last_place, last_of, SinkingIn}
 use Rattle.memory.specs.Memory.{cells_of, engine_of}
 use Rattle.memory.specs.Laws.{Sized}
-use Rattle.list_moves.proofs.Rising.{last-is, sinks_on, pops, none-pops, beyond-pops}
 use Rattle.list_moves.proofs.heap.pop.Given as goal
 
 abbrev pub invariant-loop-i : goal.invariant-loop-i

@@ -1,7 +1,6 @@
 -- `list_moves::heap::push_event` meets its contract.
 use Rattle.memory.specs.Memory.{cells_of}
 use Rattle.list_moves.proofs.Rising.{enters_sounding, enters_waiting}
-use Rattle.std.proofs.Common.{rules}
 use Rattle.list_moves.proofs.heap.push_event.Goals as goal
 
 pub returns-then-event-times : goal.returns-then-event-times

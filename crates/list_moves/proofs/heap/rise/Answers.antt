@@ -1,11 +1,11 @@
 -- `list_moves::heap::rise` meets its contract.
-use Rattle.std.proofs.Common.{◌≡◌, sym, refl, ap, ◌∙◌, arith, rules}
+use Rattle.std.proofs.Common.{sym, refl, ap, ◌∙◌, arith}
 use Rattle.event.specs.Events.{earlier}
 use Rattle.event.specs.Blank.{blank}
 use Rattle.ready.specs.Sift.{parent}
-use Rattle.memory.specs.Memory.{cells_of, engine_of}
+use Rattle.memory.specs.Memory.{cells_of}
 use Rattle.memory.specs.Laws.{waits-read}
-use Rattle.list_moves.proofs.Rising.{RisingHere, rises_in, rises_on, rises_root, rises_stop}
+use Rattle.list_moves.proofs.Rising.{rises_in, rises_on, rises_root, rises_stop}
 use Rattle.list_moves.proofs.heap.rise.Goals as goal
 use Rattle.list_moves.proofs.heap.rise.Goals.{else-loop-i-test, then-loop-i-test+then-not-precedes}
 

@@ -1,5 +1,5 @@
 -- `list_moves::heap::wait` meets its contract.
-use Rattle.std.proofs.Common.{refl, rules}
+use Rattle.std.proofs.Common.{refl}
 use Rattle.memory.specs.Memory.{cells_of}
 use Rattle.list_moves.proofs.Rising.{waits_too, full-waits}
 use Rattle.list_moves.proofs.heap.wait.Goals as goal

@@ -1,16 +1,15 @@
 -- `list_moves::queue::all_to_ready` meets its contract.
-use Rattle.std.proofs.Common.{◌≡◌, ℕ, ◌+◌, ◌-◌, ◌≤◌, min, sym, refl, ap, ◌∙◌, arith, rules}
-use Rattle.sequencer.specs.Moves.{to_ready}
-use Rattle.sequencer.specs.Turns.{Readying, readying_on, readied_all}
+use Rattle.std.proofs.Common.{ℕ, ◌+◌, min, refl, ap, ◌∙◌, arith}
+use Rattle.sequencer.specs.Turns.{readying_on, readied_all}
 use Rattle.memory.specs.Memory.{cells_of, engine_of}
 use Rattle.memory.specs.Laws.{counts_are}
 use Rattle.list_moves.proofs.queue.all_to_ready.Goals as goal
 
 pub overflow_add-n : goal.overflow_add-n
-overflow_add-n c = omega (arith, c.least-past.ensures, c.least.ensures)
+overflow_add-n c = omega (arith, c.min-past.ensures, c.min.ensures)
 
 pub loop-k-init : goal.loop-k-init
-loop-k-init c = (omega (arith, c.least-past.ensures), omega (arith, c.least.ensures), record { fuel = c.least-past.result + c.least.result; exact = omega arith; gives = refl })
+loop-k-init c = (omega (arith, c.min-past.ensures), omega (arith, c.min.ensures), record { fuel = c.min-past.result + c.min.result; exact = omega arith; gives = refl })
 
 pub held_event-event-requires : goal.held_event-event-requires
 held_event-event-requires c = let l = c.loop-k.invariant in let t = c.loop-k-test.true in (l.0, omega (arith, l.1))
@@ -24,4 +23,4 @@ pub returns : goal.returns
 returns c =
     let a = c.args in
     let c₀ = cells_of a.times.now a.levels.now a.marks.now a.numbers.now in
-    c.clear_lists.ensures ∙ readied_all (engine_of c₀) (c.least-past.ensures ∙ ap (λ (m : ℕ). min m 256) (counts_are c₀).2) (c.least.ensures ∙ ap (λ (m : ℕ). min m 256) (counts_are c₀).1) refl c.loop-k-test.false c.loop-k.invariant.2
+    c.clear_lists.ensures ∙ readied_all (engine_of c₀) (c.min-past.ensures ∙ ap (λ (m : ℕ). min m 256) (counts_are c₀).2) (c.min.ensures ∙ ap (λ (m : ℕ). min m 256) (counts_are c₀).1) refl c.loop-k-test.false c.loop-k.invariant.2

@@ -1,7 +1,6 @@
 -- `list_moves::queue::clear_lists` meets its contract.
 use Rattle.memory.specs.Memory.{cells_of}
 use Rattle.list_moves.proofs.Requeuing.{lists-cleared}
-use Rattle.std.proofs.Common.{rules}
 use Rattle.list_moves.proofs.queue.clear_lists.Goals as goal
 
 pub returns : goal.returns

@@ -1,7 +1,6 @@
 -- `list_moves::queue::held_event` meets its contract.
 use Rattle.memory.specs.Memory.{cells_of}
 use Rattle.list_moves.proofs.Requeuing.{held_finished, held_sounding}
-use Rattle.std.proofs.Common.{rules}
 use Rattle.list_moves.proofs.queue.held_event.Goals as goal
 
 pub returns-then-k-past : goal.returns-then-k-past

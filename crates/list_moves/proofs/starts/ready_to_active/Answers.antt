@@ -2,7 +2,6 @@
 use lib.Ieee.{of_bits}
 use Rattle.memory.specs.Memory.{cells_of}
 use Rattle.list_moves.proofs.Starting.{begins-from}
-use Rattle.std.proofs.Common.{rules}
 use Rattle.list_moves.proofs.starts.ready_to_active.Goals as goal
 
 pub returns : goal.returns

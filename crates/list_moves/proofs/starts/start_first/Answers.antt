@@ -1,5 +1,5 @@
 -- `list_moves::starts::start_first` meets its contract.
-use Rattle.std.proofs.Common.{◌≡◌, ◌∙◌, arith, rules}
+use Rattle.std.proofs.Common.{◌∙◌, arith}
 use Rattle.event.specs.Blank.{blank}
 use Rattle.memory.specs.Memory.{cells_of}
 use Rattle.memory.specs.Laws.{waits-read}

@@ -1,5 +1,5 @@
 -- `live::creation::create` meets its contract.
-use Rattle.std.proofs.Common.{◌≡◌, sym, refl, ap, ◌∙◌, rules}
+use Rattle.std.proofs.Common.{sym, refl, ◌∙◌}
 use Rattle.sequencer.specs.Creation.{created}
 use Rattle.live.proofs.creation.create.Goals as goal
 

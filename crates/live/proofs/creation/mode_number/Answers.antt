@@ -1,5 +1,4 @@
 -- `live::creation::mode_number` meets its contract.
-use Rattle.std.proofs.Common.{sym, ap, rules}
 use Rattle.live.proofs.creation.mode_number.Goals as goal
 
 pub returns-in-All : goal.returns-in-All

@@ -1,5 +1,5 @@
 -- `live::edits::edit_relative` meets its contract.
-use Rattle.std.proofs.Common.{refl, rules}
+use Rattle.std.proofs.Common.{refl}
 use Rattle.ledger.specs.Calls.{relative_end}
 use Rattle.ledger.specs.Refusals.{edit_end}
 use Rattle.memory.specs.Memory.{cells_of}

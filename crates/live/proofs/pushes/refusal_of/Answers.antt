@@ -1,5 +1,5 @@
 -- `live::pushes::refusal_of` meets its contract.
-use Rattle.std.proofs.Common.{◌≡◌, ℕ, get_or, ap, ◌∙◌, rules}
+use Rattle.std.proofs.Common.{ℕ, get_or, ap, ◌∙◌}
 use Rattle.refusals.specs.Refusals.{push_refusal}
 use Rattle.live.proofs.pushes.refusal_of.Goals as goal
 

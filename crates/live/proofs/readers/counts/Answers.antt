@@ -1,5 +1,5 @@
 -- `live::readers::counts` meets its contract.
-use Rattle.std.proofs.Common.{refl, rules}
+use Rattle.std.proofs.Common.{refl}
 use Rattle.memory.specs.Memory.{engine_of}
 use Rattle.live.proofs.readers.counts.Goals as goal
 

@@ -1,7 +1,6 @@
 -- `live::readers::time` meets its contract.
 use Rattle.memory.specs.Memory.{cells_of}
 use Rattle.memory.specs.Clock.{clock_in}
-use Rattle.std.proofs.Common.{rules}
 use Rattle.live.proofs.readers.time.Goals as goal
 
 pub returns : goal.returns

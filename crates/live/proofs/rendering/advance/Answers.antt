@@ -2,7 +2,6 @@
 use lib.Ieee.{of_bits}
 use Rattle.memory.specs.Memory.{cells_of}
 use Rattle.live.proofs.Begun.{advanced_in}
-use Rattle.std.proofs.Common.{rules}
 use Rattle.live.proofs.rendering.advance.Goals as goal
 
 pub returns : goal.returns

@@ -1,18 +1,14 @@
 -- `live::rendering::mix_block` meets its contract.
-use Rattle.std.proofs.Common.{◌≡◌, ℕ, ◌-◌, ◌<◌, ◌≤◌, length, sym, refl, ap, ◌∙◌, arith, rules}
-use Rattle.event.specs.Placings.{no_placings}
-use Rattle.ledger.specs.BlockSamples.{after_block}
-use Rattle.mixing.specs.Blocks.{as_span}
+use Rattle.std.proofs.Common.{◌<◌, refl, arith, rules}
 use Rattle.mixing.specs.Placed.{source_moves}
-use Rattle.sequencer.specs.Rendering.{add_block, add_places, places_pass}
-use Rattle.sequencer.specs.Passing.{Passing, passing_end}
-use Rattle.memory.specs.Memory.{cells_of, engine_of}
-use Rattle.memory.specs.Laws.{Sized}
+use Rattle.sequencer.specs.Rendering.{places_pass}
+use Rattle.sequencer.specs.Passing.{passing_end}
+use Rattle.memory.specs.Memory.{cells_of}
 use Rattle.live.proofs.Sounding.{sounds_sized, sounds-start, sounds_on}
 use Rattle.live.proofs.rendering.mix_block.Goals as goal
 
 pub loop-k-init : goal.loop-k-init
-loop-k-init c = (omega (arith, c.least-m.ensures), c.sized.ensures, sounds-start _ _ _ _ _ _ c.least-m.ensures _ refl, sounds-start _ _ _ _ _ _ c.least-m.ensures _ c.new-places.ensures, refl)
+loop-k-init c = (omega (arith, c.min-m.ensures), c.sized.ensures, sounds-start _ _ _ _ _ _ c.min-m.ensures _ refl, sounds-start _ _ _ _ _ _ c.min-m.ensures _ c.new-places.ensures, refl)
 
 pub overflow_add-slot : goal.overflow_add-slot
 overflow_add-slot c = let l = c.loop-k.invariant.0 in let t = c.mix_place-slot.ensures.1 in omega (arith, l, t)

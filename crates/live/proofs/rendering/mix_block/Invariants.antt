@@ -1,14 +1,12 @@
 -- `live::rendering::mix_block` meets its contract.
-use Rattle.std.proofs.Common.{◌≡◌, ℕ, ◌-◌, ◌<◌, ◌≤◌, length, sym, refl, ap, ◌∙◌, arith, rules}
+use Rattle.std.proofs.Common.{◌≡◌, ◌≤◌, length}
 use Rattle.event.specs.Placings.{no_placings}
 use Rattle.ledger.specs.BlockSamples.{after_block}
 use Rattle.mixing.specs.Blocks.{as_span}
-use Rattle.mixing.specs.Placed.{source_moves}
-use Rattle.sequencer.specs.Rendering.{add_block, add_places, places_pass}
-use Rattle.sequencer.specs.Passing.{Passing, passing_end}
+use Rattle.sequencer.specs.Rendering.{add_block, add_places}
+use Rattle.sequencer.specs.Passing.{Passing}
 use Rattle.memory.specs.Memory.{cells_of, engine_of}
 use Rattle.memory.specs.Laws.{Sized}
-use Rattle.live.proofs.Sounding.{sounds_sized, sounds-start, sounds_on}
 use Rattle.live.proofs.rendering.mix_block.Given as goal
 
 abbrev pub invariant-loop-k : goal.invariant-loop-k
@@ -16,6 +14,3 @@ invariant-loop-k l = (l.m ≤ 256) × Sized (cells_of l.times l.levels l.marks l
     × Passing (after_block (as_span l.span)) (add_block l.pool (as_span l.span)) l.initial.mix l.order (engine_of (cells_of l.times l.initial.levels l.initial.marks l.numbers)) l.m l.k (engine_of (cells_of l.times l.levels l.marks l.numbers)) l.mix
     × Passing (after_block (as_span l.span)) (add_places (as_span l.span)) no_placings l.order (engine_of (cells_of l.times l.initial.levels l.initial.marks l.numbers)) l.m l.k (engine_of (cells_of l.times l.levels l.marks l.numbers)) l.places
     × (length l.mix ≡ length l.initial.mix)
-
-abbrev pub decreases-loop-k : goal.decreases-loop-k
-decreases-loop-k l = l.m - l.k

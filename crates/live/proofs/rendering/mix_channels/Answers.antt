@@ -1,5 +1,5 @@
 -- `live::rendering::mix_channels` meets its contract.
-use Rattle.std.proofs.Common.{◌/◌, List, length, take, ap, ◌∙◌, rules}
+use Rattle.std.proofs.Common.{◌/◌, List, length, take, ap, ◌∙◌}
 use lib.Ieee.{Float}
 use Rattle.ledger.specs.BlockSamples.{overlay}
 use Rattle.live.proofs.rendering.mix_channels.Goals as goal

@@ -1,5 +1,5 @@
 -- `live::rendering::mix_place` meets its contract.
-use Rattle.std.proofs.Common.{arith, rules}
+use Rattle.std.proofs.Common.{arith}
 use Rattle.live.proofs.rendering.mix_place.Goals as goal
 
 pub returns-in-Forward : goal.returns-in-Forward

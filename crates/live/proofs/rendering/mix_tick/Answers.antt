@@ -1,19 +1,17 @@
 -- `live::rendering::mix_tick` meets its contract.
-use Rattle.std.proofs.Common.{◌≡◌, ℕ, ◌-◌, ◌<◌, ◌≤◌, sym, refl, ap, ◌∙◌, arith, rules}
+use Rattle.std.proofs.Common.{◌<◌, refl, ap, arith}
 use lib.Ieee.{Float, of_bits}
-use Rattle.floats.specs.Arithmetic.{zeroᶠ, ◌+ˢ◌}
+use Rattle.floats.specs.Arithmetic.{◌+ˢ◌}
 use Rattle.event.specs.declared.Event.{Event}
-use Rattle.ledger.specs.TickSamples.{after_tick}
-use Rattle.sequencer.specs.Rendering.{add_tick, tick_pass}
-use Rattle.sequencer.specs.Passing.{Passing, passing_end}
-use Rattle.memory.specs.Memory.{cells_of, engine_of}
-use Rattle.memory.specs.Laws.{Sized}
+use Rattle.sequencer.specs.Rendering.{tick_pass}
+use Rattle.sequencer.specs.Passing.{passing_end}
+use Rattle.memory.specs.Memory.{cells_of}
 use Rattle.live.proofs.Sounding.{tick_moves, sounds_sized, sounds-start, sounds_on}
 use Rattle.live.proofs.rendering.mix_tick.Goals as goal
 
 pub loop-k-init : goal.loop-k-init
 unfolding of_bits
-loop-k-init c = (omega (arith, c.least-m.ensures), c.sized.ensures, sounds-start _ _ _ _ _ _ c.least-m.ensures _ refl)
+loop-k-init c = (omega (arith, c.min-m.ensures), c.sized.ensures, sounds-start _ _ _ _ _ _ c.min-m.ensures _ refl)
 
 pub overflow_add-slot : goal.overflow_add-slot
 overflow_add-slot c = let l = c.loop-k.invariant.0 in let t = c.mix_place-slot.ensures.1 in omega (arith, l, t)

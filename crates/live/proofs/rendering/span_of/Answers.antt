@@ -1,9 +1,8 @@
 -- `live::rendering::span_of` meets its contract.
-use Rattle.std.proofs.Common.{get_or, sym, ap, ◌∙◌, rules}
+use Rattle.std.proofs.Common.{get_or, sym, ap, ◌∙◌}
 use lib.Ieee.{Float, nan}
 use Rattle.floats.specs.Arithmetic.{◌+ᵈ◌, ◌×ᵈ◌}
 use Rattle.floats.specs.WholeIs.{whole_is}
-use Rattle.mixing.specs.declared.Span as MixSpans
 use Rattle.live.proofs.rendering.span_of.Goals as goal
 
 pub returns : goal.returns

@@ -1,5 +1,5 @@
 -- `live::resets::let_all_go` meets its contract.
-use Rattle.std.proofs.Common.{ap, ◌∙◌, rules}
+use Rattle.std.proofs.Common.{refl, ap, ◌∙◌}
 use Rattle.sequencer.specs.Resets.{emptied_lists}
 use Rattle.memory.specs.Memory.{cells_of, engine_of}
 use Rattle.live.proofs.Again.{all_gone, gone_is}
@@ -9,4 +9,4 @@ pub returns : goal.returns
 returns c =
     let a = c.args in
     let c₀ = cells_of a.times.now a.levels.now a.marks.now a.numbers.now in
-    all_gone c₀ c.sized.ensures _ ∙ ap (emptied_lists (engine_of c₀)) (gone_is c₀ _ _ _ _ c.least-past.ensures c.least-waiting.ensures c.least-sounding.ensures c.wrapping_add_u64.ensures.value)
+    all_gone c₀ c.sized.ensures _ ∙ ap (emptied_lists (engine_of c₀)) (gone_is c₀ _ _ _ _ c.min-past.ensures c.min-waiting.ensures c.min-sounding.ensures refl)

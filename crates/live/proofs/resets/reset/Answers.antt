@@ -1,5 +1,5 @@
 -- `live::resets::reset` meets its contract.
-use Rattle.std.proofs.Common.{rules, ne_eqb}
+use Rattle.std.proofs.Common.{ne_eqb}
 use Rattle.memory.specs.Memory.{cells_of}
 use Rattle.live.proofs.Again.{reset-all, reset-none}
 use Rattle.live.proofs.resets.reset.Goals as goal

@@ -18,7 +18,7 @@ pub overflow_add-at : goal.overflow_add-at
 overflow_add-at c = let a = inside _ _ c.requires in search rules
 
 pub returns-then-at-w : goal.returns-then-at-w
-returns-then-at-w c = rw c.greater.ensures (sym (goes_on _ _ _ c.if-w-le1.false c.if-at-w.true))
+returns-then-at-w c = rw c.max.ensures (sym (goes_on _ _ _ c.if-w-le1.false c.if-at-w.true))
 
 pub suffix_maxima-requires : goal.suffix_maxima-requires
 suffix_maxima-requires c = rw length-set (room _ _ c.requires c.if-w-le1.false)

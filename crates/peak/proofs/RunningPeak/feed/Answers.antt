@@ -1,15 +1,15 @@
-use mathlib.Core.Path.{sym, ◌∙◌}
-use Rattle.peak.proofs.Turns.{taken, left_alone}
-use borrow.Author.Rules.{rules}
+use Rattle.std.proofs.Common.{sym, ◌∙◌}
+use Rattle.std.proofs.lemmas.Result.{err_from_is_err_and}
+use Rattle.peak.proofs.Turns.{served_ok, served_err, taken, left_alone}
 use Rattle.peak.proofs.RunningPeak.feed.Goals as goal
 
-pub advance-p-requires : goal.advance-p-requires
-advance-p-requires c = sym c.serves.ensures ∙ c.if-serves.true
+pub returns-in_err-p-clause-left : goal.returns-in_err-p-clause-left
+returns-in_err-p-clause-left c =
+    let p = err_from_is_err_and c.from_residual.result c.from_residual.ensures.1 in
+    let s = served_err _ _ _ (sym c.served.ensures ∙ c.in_err-p.was) in
+    rw (p.1, p.2, ← s.1) (sym (left_alone _ _ s.0))
 
-pub returns-then-serves : goal.returns-then-serves
-returns-then-serves c =
-    let t = sym c.serves.ensures ∙ c.if-serves.true in
-    record { told = rw t; left = rw (c.advance-p.ensures, c.magnitude.ensures) (sym (taken _ _ t)) }
-
-pub returns : goal.returns
-returns c = record { told = rw (sym c.serves.ensures ∙ c.if-serves.false); left = sym (left_alone _ _ (sym c.serves.ensures ∙ c.if-serves.false)) }
+pub returns-clause-left : goal.returns-clause-left
+returns-clause-left c =
+    let s = served_ok _ _ _ (sym c.served.ensures ∙ c.in_ok-p.was) in
+    rw (c.advance.ensures, c.magnitude.ensures, ← s.1) (sym (taken _ _ s.0))

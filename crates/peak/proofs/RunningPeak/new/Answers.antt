@@ -1,14 +1,10 @@
-use mathlib.Core.Path.{sym}
-use native.Mathlib.Omega.{arith}
-use Rattle.peak.proofs.Turns.{too_small, too_large, in-limits}
-use borrow.Author.Rules.{rules}
+use Rattle.std.proofs.Common.{sym, ap, ◌∙◌, arith, Ok, Err}
+use Rattle.peak.specs.Steps.{refused}
+use Rattle.peak.proofs.Turns.{outside, in-limits}
 use Rattle.peak.proofs.RunningPeak.new.Goals as goal
 
 pub returns-then-window-lt1 : goal.returns-then-window-lt1
-returns-then-window-lt1 c = rw c.fresh.ensures (sym (too_small _ _ c.if-window-lt1.true))
-
-pub returns-then-window-gt4096 : goal.returns-then-window-gt4096
-returns-then-window-gt4096 c = rw c.fresh-then-window-gt4096.ensures (sym (too_large _ _ c.if-window-lt1.false c.if-window-gt4096.true))
+returns-then-window-lt1 c = ap (λ p. Err (refused p)) c.fresh.ensures ∙ sym (outside _ _ c.then-window-lt1.either)
 
 pub returns : goal.returns
-returns c = rw c.fresh-2.ensures (sym (in-limits _ _ c.if-window-lt1.false c.if-window-gt4096.false (omega arith)))
+returns c = ap Ok c.fresh-2.ensures ∙ sym (in-limits _ _ (omega arith) (omega arith) (omega arith))

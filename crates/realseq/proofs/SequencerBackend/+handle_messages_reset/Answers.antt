@@ -1,4 +1,4 @@
-use Rattle.std.proofs.Common.{◌≡◌, ℕ, ◌<◌, sym, ap, ◌∙◌, arith, rules}
+use Rattle.std.proofs.Common.{◌≡◌, ◌<◌, sym, ap, ◌∙◌, arith}
 use Rattle.realseq.specs.Handling as spec
 use Rattle.realseq.specs.HandlingLaws.{Settled}
 use Rattle.realseq.proofs.HandlingLaws.{until_settled, taken-less, settled-reset, drained-none}

@@ -1,8 +1,9 @@
 -- `realseq::SequencerBackend::edit_refusal` meets its contract. Assumes nothing.
-use Rattle.std.proofs.Common.{◌≡◌, ℕ, ◌+◌, ◌<◌, ◌≤◌, Bool, true, false, cond, eqb, leb, sym, refl, ap, ◌∙◌, arith, rules, eq-eqb, ne_eqb, le-leb}
+use Rattle.std.proofs.Common.{◌≡◌, ℕ, ◌+◌, ◌<◌, ◌≤◌, Bool, true, false, cond, eqb, leb, sym, refl, ap, ◌∙◌, arith, eq-eqb, ne_eqb, le-leb}
 use borrow.Author.Tests.{lt-leb}
 use lib.Ieee.{Float}
 use Rattle.refusals.specs.Refusals.{edit_limits}
+use Rattle.refusals.specs.Numbers.{refused_is, taken_is}
 use Rattle.realseq.specs.declared.SequencerBackend.{SequencerBackend}
 use Rattle.realseq.specs.declared.queues.Messages.{Messages}
 use Rattle.realseq.specs.Queues.{tallied}
@@ -10,6 +11,7 @@ use Rattle.realseq.specs.QueueLaws.{tallied-le}
 use Rattle.realseq.specs.Fronts.{or_full, edit_refused}
 use Rattle.realseq.proofs.Choices.{or-13, or-0}
 use Rattle.realseq.proofs.SequencerBackend.edit_refusal.Goals as goal
+use Rattle.realseq.proofs.SequencerBackend.edit_refusal.Goals.{then-stored-ge256-via-then-stored-ge256, then-stored-ge256-via-else-stored-ge256+then-stored-tally-ge256}
 
 few : (n : ℕ) (q : Messages) (k : ℕ) → n ≡ tallied q k → n ≤ 64
 few n q k h = omega (arith, tallied-le q k, h)
@@ -43,33 +45,24 @@ module _ (d : SequencerBackend) (end fade_out : Float) (k : ℕ) (h : k ≡ edit
       fine : d.messages.count < 64 → 0 ≡ edit_refused d end fade_out
       fine m = or-0 0 0 refl d refl m ∙ within false (lt-leb 256 more (omega (arith, l, e)))
 
-pub returns-then-no-ne0 : goal.returns-then-no-ne0
-returns-then-no-ne0 c = beyond _ _ _ _ c.edit_limits-no.ensures c.if-no-ne0.true
-
-pub returns-then-stored-ge256 : goal.returns-then-stored-ge256
-returns-then-stored-ge256 c =
-    let e = c.before.before.before.before.before in
-    stored _ _ _ _ e.edit_limits-no.ensures e.if-no-ne0.false c.if-stored-ge256.true
+pub returns-in-Some : goal.returns-in-Some
+returns-in-Some c =
+    let r = refused_is _ _ _ c.edit_limits.ensures c.in-Some.is in
+    beyond _ _ _ _ r.0 (λ z. omega (arith, r.0, r.1, z))
 
 pub overflow_add-stored : goal.overflow_add-stored
 overflow_add-stored c = omega (arith, few c.tally.result _ _ c.tally.ensures, c.if-stored-ge256.false)
 
-pub returns-then-stored-tally-ge256 : goal.returns-then-stored-tally-ge256
-returns-then-stored-tally-ge256 c =
-    let t = c.before.before in
-    let e = t.before.before.before.before.before.before in
-    stores _ _ _ _ e.edit_limits-no.ensures e.if-no-ne0.false _ t.tally.ensures c.if-stored-tally-ge256.true
+pub returns-then-stored-ge256 : goal.returns-then-stored-ge256
+returns-then-stored-ge256 c =
+    let none = taken_is _ _ c.edit_limits.ensures c.in_default.is in
+    elim c.then-stored-ge256.branch [
+      | then-stored-ge256-via-then-stored-ge256 w ↦ stored _ _ _ _ refl none w.if-stored-ge256.true
+      | then-stored-ge256-via-else-stored-ge256+then-stored-tally-ge256 w ↦ stores _ _ _ _ refl none _ w.tally.ensures w.if-stored-tally-ge256.true
+    ]
 
-pub returns-then-q-ge64 : goal.returns-then-q-ge64
-returns-then-q-ge64 c =
-    let i = c.before.before in
-    let t = i.before.before in
-    let e = t.before.before.before.before.before.before in
-    full _ _ _ _ e.edit_limits-no.ensures e.if-no-ne0.false _ t.tally.ensures i.if-stored-tally-ge256.false c.if-q-ge64.true
+pub returns-then-self-ge64 : goal.returns-then-self-ge64
+returns-then-self-ge64 c = full _ _ _ _ refl (taken_is _ _ c.edit_limits.ensures c.in_default.is) _ c.tally.ensures c.if-stored-tally-ge256.false c.if-self-ge64.true
 
 pub returns : goal.returns
-returns c =
-    let i = c.before.before in
-    let t = i.before.before in
-    let e = t.before.before.before.before.before.before in
-    fine _ _ _ _ e.edit_limits-no.ensures e.if-no-ne0.false _ t.tally.ensures i.if-stored-tally-ge256.false c.if-q-ge64.false
+returns c = fine _ _ _ _ refl (taken_is _ _ c.edit_limits.ensures c.in_default.is) _ c.tally.ensures c.if-stored-tally-ge256.false c.if-self-ge64.false

@@ -1,8 +1,6 @@
 -- `realseq::SequencerBackend::handle_until_reset` meets its contract. Assumes nothing.
-use Rattle.std.proofs.Common.{◌≡◌, sym, refl, ap, ◌∙◌, rules}
-use Rattle.realseq.specs.Queues.{is_reset}
+use Rattle.std.proofs.Common.{◌≡◌}
 use Rattle.realseq.specs.Handling.{until_reset}
-use Rattle.realseq.proofs.HandlingLaws.{until_none, until_stop, until_on}
 use Rattle.realseq.proofs.SequencerBackend.handle_until_reset.Given as goal
 
 abbrev pub invariant-loop-q : goal.invariant-loop-q

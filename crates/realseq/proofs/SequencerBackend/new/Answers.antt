@@ -1,5 +1,5 @@
 -- `realseq::SequencerBackend::new` meets its contract. Assumes nothing.
-use Rattle.std.proofs.Common.{◌≡◌, rules}
+use Rattle.std.proofs.Common.{◌≡◌}
 use Rattle.sequencer.specs.declared.Sequencer.{Sequencer}
 use Rattle.realseq.specs.declared.queues.Messages.{Messages}
 use Rattle.realseq.specs.declared.queues.Returned.{Returned}

@@ -1,7 +1,8 @@
 -- `realseq::SequencerBackend::process` meets its contract.
-use Rattle.std.proofs.Common.{◌≡◌, ℕ, List, ap, ◌∙◌, rules}
+use Rattle.std.proofs.Common.{arith, refl, ◌≡◌, ℕ, List, ap, ◌∙◌}
 use lib.Ieee.{Float}
 use Rattle.event.specs.declared.MixOrder.{MixOrder}
+use Rattle.refusals.specs.Numbers.{refused_is, taken_is}
 use Rattle.sequencer.specs.declared.Outcome as Engine
 use Rattle.sequencer.specs.Outcomes as Engines
 use Rattle.sequencer.specs.Rendering.{rendered_block, rendered_places, rendered_block_out}
@@ -23,18 +24,19 @@ module _ (order : MixOrder) (pool : List Float) (n : ℕ) (d e : SequencerBacken
   sounded : (out o : List Float) → o ≡ rendered_block_out order pool n e.sequencer out → o ≡ rendered_block_out order pool n (drained d).sequencer out
   sounded out o q = q ∙ ap (λ (b : SequencerBackend). rendered_block_out order pool n b.sequencer out) h
 
-pub returns-then-no-ne0 : goal.returns-then-no-ne0
+pub returns-in-Some : goal.returns-in-Some
 unfolding blocks block_outs
-returns-then-no-ne0 c =
-    let no = c.process_refusal-no.ensures in
-    (refused _ _ no _ _ c.if-no-ne0.true, unheard _ _ no _ _ c.if-no-ne0.true)
+returns-in-Some c =
+    let r = refused_is _ _ _ c.process_refusal.ensures c.in-Some.is in
+    let e = c.number.ensures ∙ r.0 in
+    let some : c.number.result ≡ 0 → ⊥ = λ z. omega (arith, r.1, e, z) in
+    (refused _ _ e _ _ some, unheard _ _ e _ _ some)
 
 pub returns : goal.returns
 unfolding blocks block_outs
 returns c =
     let a = c.args in
-    let some = c.if-no-ne0.false in
-    let no = c.process_refusal-no.ensures in (
-      done _ _ no _ _ _ some (stepped a.order a.pool.now a.size a.self c.drain-d.result c.drain-d.ensures _ _ c.render_block-r.ensures.0 c.after_step.ensures),
-      heard _ _ no a.out.now _ _ some (sounded a.order a.pool.now a.size a.self c.drain-d.result c.drain-d.ensures a.out.now _ c.render_block-r.ensures.1),
+    let none = taken_is _ _ c.process_refusal.ensures c.in_default.is in (
+      done _ _ refl _ _ _ none (stepped a.order a.pool.now a.size a.self c.drain-d.result c.drain-d.ensures _ _ c.render_block-r.ensures.0 c.after_step.ensures),
+      heard _ _ refl a.out.now _ _ none (sounded a.order a.pool.now a.size a.self c.drain-d.result c.drain-d.ensures a.out.now _ c.render_block-r.ensures.1),
     )

@@ -1,6 +1,4 @@
 -- `realseq::SequencerBackend::push_duration` meets its contract. Assumes nothing.
-use Rattle.std.proofs.Common.{rules}
-use Rattle.ledger.specs.Refusals.{stated_end}
 use Rattle.realseq.specs.Fronts.{pushes}
 use Rattle.realseq.proofs.SequencerBackend.push_duration.Goals as goal
 

@@ -1,8 +1,9 @@
 -- `realseq::SequencerBackend::push_refusal` meets its contract. Assumes nothing.
-use Rattle.std.proofs.Common.{◌≡◌, ℕ, ◌+◌, ◌<◌, ◌≤◌, min, ap, ◌∙◌, arith, rules}
+use Rattle.std.proofs.Common.{refl, ◌≡◌, ℕ, ◌+◌, ◌<◌, ◌≤◌, min, ap, ◌∙◌, arith}
 use lib.Ieee.{Float}
 use Rattle.event.specs.declared.Source.{Source}
 use Rattle.refusals.specs.Refusals.{push_refusal}
+use Rattle.refusals.specs.Numbers.{refused_is, taken_is}
 use Rattle.realseq.specs.declared.SequencerBackend.{SequencerBackend}
 use Rattle.realseq.specs.declared.queues.Messages.{Messages}
 use Rattle.realseq.specs.Queues.{tallied}
@@ -40,19 +41,13 @@ module _ (d : SequencerBackend) (start end lasts fade_in fade_out : Float) (sour
 pub overflow_add-n : goal.overflow_add-n
 overflow_add-n c = omega (arith, c.held.ensures, few c.tally.result _ _ c.tally.ensures)
 
-pub returns-then-no-ne0 : goal.returns-then-no-ne0
-returns-then-no-ne0 c =
-    let p = c.before in
-    other _ _ _ _ _ _ _ _ _ _ _ p.held.ensures p.tally.ensures p.push_refusal-no.ensures c.if-no-ne0.true
+pub returns-in-Some : goal.returns-in-Some
+returns-in-Some c =
+    let r = refused_is _ _ _ c.push_refusal.ensures c.in-Some.is in
+    other _ _ _ _ _ _ _ _ _ _ _ c.held.ensures c.tally.ensures r.0 (λ z. omega (arith, r.0, r.1, z))
 
-pub returns-then-q-ge64 : goal.returns-then-q-ge64
-returns-then-q-ge64 c =
-    let e = c.before.before in
-    let p = e.before in
-    full _ _ _ _ _ _ _ _ _ _ _ p.held.ensures p.tally.ensures p.push_refusal-no.ensures e.if-no-ne0.false c.if-q-ge64.true
+pub returns-then-self-ge64 : goal.returns-then-self-ge64
+returns-then-self-ge64 c = full _ _ _ _ _ _ _ _ _ _ _ c.held.ensures c.tally.ensures refl (taken_is _ _ c.push_refusal.ensures c.in_default.is) c.if-self-ge64.true
 
 pub returns : goal.returns
-returns c =
-    let e = c.before.before in
-    let p = e.before in
-    fine _ _ _ _ _ _ _ _ _ _ _ p.held.ensures p.tally.ensures p.push_refusal-no.ensures e.if-no-ne0.false c.if-q-ge64.false
+returns c = fine _ _ _ _ _ _ _ _ _ _ _ c.held.ensures c.tally.ensures refl (taken_is _ _ c.push_refusal.ensures c.in_default.is) c.if-self-ge64.false

@@ -1,8 +1,7 @@
 -- `realseq::SequencerBackend::queue_reset` meets its contract. Assumes nothing.
-use Rattle.std.proofs.Common.{◌≡◌, ◌<◌, ◌≤◌, Bool, cond, sym, ap, ◌∙◌, rules, le-leb}
+use Rattle.std.proofs.Common.{◌≡◌, ◌<◌, ◌≤◌, Bool, cond, sym, ap, ◌∙◌, le-leb}
 use borrow.Author.Tests.{lt-leb}
 use Rattle.realseq.specs.declared.SequencerBackend.{SequencerBackend}
-use Rattle.realseq.specs.declared.Outcome.{Outcome}
 use Rattle.realseq.specs.declared.Answer.TheVariants.{Queued}
 use Rattle.realseq.specs.declared.queues.Message.TheVariants.{Reset}
 use Rattle.realseq.specs.Fronts.{queued_with, resets}
@@ -20,8 +19,8 @@ module _ (d : SequencerBackend) where
       ap (λ (x : SequencerBackend). record { backend = x; answer = Queued }) g
       ∙ sym (ap (λ (b : Bool). cond b (refuses d 13) (record { backend = queued_with Reset d; answer = Queued })) (lt-leb 64 d.messages.count h))
 
-pub returns-then-q-ge64 : goal.returns-then-q-ge64
-returns-then-q-ge64 c = full _ c.if-q-ge64.true
+pub returns-then-self-ge64 : goal.returns-then-self-ge64
+returns-then-self-ge64 c = ap (refuses _) c.number.ensures ∙ full _ c.if-self-ge64.true
 
 pub returns : goal.returns
-returns c = fine _ _ c.if-q-ge64.false c.send.ensures
+returns c = fine _ _ c.if-self-ge64.false c.send.ensures

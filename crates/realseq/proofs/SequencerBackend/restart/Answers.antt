@@ -1,5 +1,5 @@
 -- `realseq::SequencerBackend::restart` meets its contract. Assumes nothing.
-use Rattle.std.proofs.Common.{◌≡◌, min, sym, ap, ◌∙◌, rules}
+use Rattle.std.proofs.Common.{◌≡◌, min, sym, ap, ◌∙◌}
 use Rattle.event.specs.declared.ReplayMode.{ReplayMode}
 use Rattle.event.specs.declared.ReplayMode.TheVariants.{All, None}
 use Rattle.sequencer.specs.declared.Sequencer.{Sequencer}
@@ -9,6 +9,7 @@ use Rattle.realseq.specs.declared.SequencerBackend.{SequencerBackend}
 use Rattle.realseq.specs.declared.queues.Returned.{Returned}
 use Rattle.realseq.specs.Handling.{sent_down, sent_ready, returned_by, restarted}
 use Rattle.realseq.proofs.SequencerBackend.restart.Goals as goal
+use Rattle.realseq.proofs.SequencerBackend.restart.Goals.{in-All, in-None}
 
 module _ (d : SequencerBackend) (t : Sequencer) (ht : t ≡ Engine.resets d.sequencer) where
   both : (r : Returned) → r ≡ returned_by d.sequencer.mode d.sequencer d.returned → record { sequencer = t; messages = d.messages; returned = r } ≡ restarted d
@@ -33,8 +34,8 @@ module _ (d : SequencerBackend) (t : Sequencer) (ht : t ≡ Engine.resets d.sequ
       (hz ∙ ap (λ (r : Returned). sent_down (min s.active_len 256) s.active r) (hy ∙ ap (λ (r : Returned). sent_ready (min s.ready_len 256) (heap_of s) r) hx)
       ∙ sym (ap (λ (x : ReplayMode). returned_by x s d.returned) m))
 
-pub returns-in-All : goal.returns-in-All
-returns-in-All c = replays _ _ c.reset-s.ensures c.in-All.is
-
-pub returns-in-None : goal.returns-in-None
-returns-in-None c = lets_go _ _ c.reset-s-in-None.ensures _ _ _ c.in-None.is c.push_past-q.ensures c.push_ready-q.ensures c.push_active-q.ensures
+pub returns : goal.returns
+returns c = elim c.match-s.branch [
+  | in-All w ↦ rw w.self-is (replays _ _ c.reset-self.ensures w.in-All.is)
+  | in-None w ↦ rw w.self-is (lets_go _ _ c.reset-self.ensures _ _ _ w.in-None.is w.push_down-q.ensures w.push_ready-q.ensures w.push_down-self.ensures)
+]

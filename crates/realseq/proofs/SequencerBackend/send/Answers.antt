@@ -1,5 +1,5 @@
 -- `realseq::SequencerBackend::send` meets its contract. Assumes nothing.
-use Rattle.std.proofs.Common.{◌≡◌, ap, ◌∙◌, rules}
+use Rattle.std.proofs.Common.{◌≡◌, ap, ◌∙◌}
 use Rattle.realseq.specs.declared.SequencerBackend.{SequencerBackend}
 use Rattle.realseq.specs.declared.queues.Message.{Message}
 use Rattle.realseq.specs.declared.queues.Messages.{Messages}
@@ -15,4 +15,4 @@ sends d m q r hq hr =
     ∙ ap (λ (x : Returned). record { sequencer = d.sequencer; messages = pushed d.messages m; returned = x }) hr
 
 pub returns : goal.returns
-returns c = sends _ _ _ _ c.push-q.ensures c.empty-r.ensures
+returns c = sends _ _ _ _ c.push-self.ensures c.empty-self.ensures

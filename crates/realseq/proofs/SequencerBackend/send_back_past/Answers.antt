@@ -1,5 +1,5 @@
 -- `realseq::SequencerBackend::send_back_past` meets its contract. Assumes nothing.
-use Rattle.std.proofs.Common.{◌≡◌, min, sym, ap, ◌∙◌, rules}
+use Rattle.std.proofs.Common.{◌≡◌, min, sym, ap, ◌∙◌}
 use Rattle.event.specs.declared.ReplayMode.{ReplayMode}
 use Rattle.event.specs.declared.ReplayMode.TheVariants.{All, None}
 use Rattle.sequencer.specs.declared.Sequencer.{Sequencer}
@@ -26,6 +26,4 @@ pub returns-in-All : goal.returns-in-All
 returns-in-All c = kept _ c.in-All.is
 
 pub returns-in-None : goal.returns-in-None
-returns-in-None c =
-    let p = c.before in
-    sends _ _ _ p.in-None.is p.push_past-q.ensures c.release_past-s.ensures
+returns-in-None c = sends _ _ _ c.in-None.is c.push_down-self.ensures c.release_past-self.ensures

@@ -1,8 +1,9 @@
 -- `realseq::SequencerBackend::send_edit` meets its contract. Assumes nothing.
-use Rattle.std.proofs.Common.{◌≡◌, ℕ, Bool, true, false, sym, ap, ◌∙◌, rules}
+use Rattle.std.proofs.Common.{arith, refl, ◌≡◌, ℕ, Bool, true, false, sym, ap, ◌∙◌}
 use lib.Ieee.{Float}
 use Rattle.event.specs.declared.EventId.{EventId}
 use Rattle.event.specs.declared.Edit.{Edit}
+use Rattle.realseq.specs.Numbers.{refused_is, taken_is}
 use Rattle.realseq.specs.declared.SequencerBackend.{SequencerBackend}
 use Rattle.realseq.specs.declared.Answer.TheVariants.{Queued}
 use Rattle.realseq.specs.declared.queues.Message.{Message}
@@ -32,15 +33,15 @@ module _ (d : SequencerBackend) (r : Bool) (i : EventId) (end fade_out : Float) 
     queues-absolute : r ≡ false → e ≡ queued_with (Amend i change) d → record { backend = e; answer = Queued } ≡ sends_edit d r i end fade_out
     queues-absolute b g = queues (Amend i change) (sym (ap (λ (x : Bool). edit_message x i change) b)) g
 
-pub returns-then-no-ne0 : goal.returns-then-no-ne0
-returns-then-no-ne0 c = refuses-it _ _ _ _ _ _ c.edit_refusal-no.ensures c.if-no-ne0.true
+pub returns-in-Some : goal.returns-in-Some
+returns-in-Some c =
+    let r = refused_is _ _ _ c.edit_refusal.ensures c.in-Some.is in
+    let e = c.number.ensures ∙ r.0 in
+    let some : c.number.result ≡ 0 → ⊥ = λ z. omega (arith, r.1, e, z) in
+    refuses-it _ _ _ _ _ _ e some
 
 pub returns-then-relative : goal.returns-then-relative
-returns-then-relative c =
-    let e = c.before.before in
-    queues-relative _ _ _ _ _ _ e.edit_refusal-no.ensures e.if-no-ne0.false _ c.if-relative.true c.send.ensures
+returns-then-relative c = queues-relative _ _ _ _ _ _ refl (taken_is _ _ c.edit_refusal.ensures c.in_default.is) _ c.if-relative.true c.send.ensures
 
 pub returns : goal.returns
-returns c =
-    let e = c.before.before in
-    queues-absolute _ _ _ _ _ _ e.edit_refusal-no.ensures e.if-no-ne0.false _ c.if-relative.false c.send-2.ensures
+returns c = queues-absolute _ _ _ _ _ _ refl (taken_is _ _ c.edit_refusal.ensures c.in_default.is) _ c.if-relative.false c.send-2.ensures

@@ -1,11 +1,12 @@
 -- `realseq::SequencerBackend::send_push` meets its contract. Assumes nothing.
-use Rattle.std.proofs.Common.{◌≡◌, ℕ, Bool, true, false, sym, ap, ◌∙◌, rules}
+use Rattle.std.proofs.Common.{arith, refl, ◌≡◌, ℕ, Bool, true, false, sym, ap, ◌∙◌}
 use lib.Ieee.{Float}
 use Rattle.event.specs.declared.Event.{Event}
 use Rattle.event.specs.declared.Fade.{Fade}
 use Rattle.event.specs.declared.Source.{Source}
 use Rattle.event.specs.Events.{new_event}
 use Rattle.floats.specs.Arithmetic.{◌-ᵈ◌}
+use Rattle.realseq.specs.Numbers.{refused_is, taken_is}
 use Rattle.realseq.specs.declared.SequencerBackend.{SequencerBackend}
 use Rattle.realseq.specs.declared.Outcome.{Outcome}
 use Rattle.realseq.specs.declared.Answer.TheVariants.{Number}
@@ -42,17 +43,19 @@ module _ (d : SequencerBackend) (r : Bool) (start end until : Float) (curve : Fa
     queues-absolute : r ≡ false → g ≡ queued_with (Push v) e → answers g ≡ sends_push d r start end until curve fade_in fade_out source gain
     queues-absolute b q = queues (Push v) (sym (ap (λ (x : Bool). push_message x v) b)) q
 
-pub returns-then-no-ne0 : goal.returns-then-no-ne0
-returns-then-no-ne0 c = refuses-it _ _ _ _ _ _ _ _ _ _ _ c.push_refusal-no.ensures c.if-no-ne0.true
+pub returns-in-Some : goal.returns-in-Some
+returns-in-Some c =
+    let r = refused_is _ _ _ c.push_refusal.ensures c.in-Some.is in
+    let e = c.number.ensures ∙ r.0 in
+    let some : c.number.result ≡ 0 → ⊥ = λ z. omega (arith, r.1, e, z) in
+    refuses-it _ _ _ _ _ _ _ _ _ _ _ e some
 
 pub returns-then-relative : goal.returns-then-relative
 returns-then-relative c =
-    let t = c.before.before in
-    let e = t.before.before.before in
-    queues-relative _ _ _ _ _ _ _ _ _ _ _ e.push_refusal-no.ensures e.if-no-ne0.false _ t.new-event.ensures _ _ t.take_number-d.ensures c.if-relative.true c.send-d.ensures
+    let none = taken_is _ _ c.push_refusal.ensures c.in_default.is in
+    queues-relative _ _ _ _ _ _ _ _ _ _ _ refl none _ c.new-event.ensures _ _ c.take_number-d.ensures c.if-relative.true c.send-d.ensures
 
 pub returns : goal.returns
 returns c =
-    let t = c.before.before in
-    let e = t.before.before.before in
-    queues-absolute _ _ _ _ _ _ _ _ _ _ _ e.push_refusal-no.ensures e.if-no-ne0.false _ t.new-event.ensures _ _ t.take_number-d.ensures c.if-relative.false c.send-d-2.ensures
+    let none = taken_is _ _ c.push_refusal.ensures c.in_default.is in
+    queues-absolute _ _ _ _ _ _ _ _ _ _ _ refl none _ c.new-event.ensures _ _ c.take_number-d.ensures c.if-relative.false c.send-d-2.ensures

@@ -1,9 +1,10 @@
 -- `realseq::SequencerBackend::set_sample_rate` meets its contract. Assumes nothing.
-use Rattle.std.proofs.Common.{◌≡◌, ℕ, ap, ◌∙◌, rules}
+use Rattle.std.proofs.Common.{arith, refl, ◌≡◌, ℕ, ap, ◌∙◌}
 use lib.Ieee.{Float}
 use Rattle.refusals.specs.Refusals.{rate_refusal}
 use Rattle.sequencer.specs.declared.Sequencer.{Sequencer}
 use Rattle.sequencer.specs.Resets.{re_rated}
+use Rattle.refusals.specs.Numbers.{refused_is, taken_is}
 use Rattle.realseq.specs.declared.SequencerBackend.{SequencerBackend}
 use Rattle.realseq.specs.Handling.{drained}
 use Rattle.realseq.specs.Answers.{refuses}
@@ -23,8 +24,12 @@ module _ (d : SequencerBackend) (r : Float) (k : ℕ) (q : k ≡ rate_refusal r)
       gives k (rate_refusal r) q d _ _ z
       (ap (λ (x : Sequencer). accepts (with_engine e x)) g ∙ ap (λ (x : SequencerBackend). accepts (with_engine x (re_rated x.sequencer r))) h)
 
-pub returns-then-no-ne0 : goal.returns-then-no-ne0
-returns-then-no-ne0 c = rate-refused _ _ _ c.rate_refusal-no.ensures c.if-no-ne0.true
+pub returns-in-Some : goal.returns-in-Some
+returns-in-Some c =
+    let r = refused_is _ _ _ c.rate_refusal.ensures c.in-Some.is in
+    let e = c.number.ensures ∙ r.0 in
+    let some : c.number.result ≡ 0 → ⊥ = λ z. omega (arith, r.1, e, z) in
+    rate-refused _ _ _ e some
 
 pub returns : goal.returns
-returns c = rate-done _ _ _ c.rate_refusal-no.ensures _ _ c.if-no-ne0.false c.drain-d.ensures c.change_rate-s.ensures
+returns c = rate-done _ _ _ refl _ _ (taken_is _ _ c.rate_refusal.ensures c.in_default.is) c.drain-d.ensures c.change_rate-d.ensures

@@ -1,5 +1,5 @@
 -- `realseq::SequencerBackend::take` meets its contract. Assumes nothing.
-use Rattle.std.proofs.Common.{◌≡◌, ap, rules}
+use Rattle.std.proofs.Common.{◌≡◌, ap}
 use Rattle.realseq.specs.declared.SequencerBackend.{SequencerBackend}
 use Rattle.realseq.specs.declared.queues.Messages.{Messages}
 use Rattle.realseq.specs.Queues.{popped}
@@ -11,4 +11,4 @@ unfolding taken
 off d q h = ap (λ (x : Messages). record { sequencer = d.sequencer; messages = x; returned = d.returned }) h
 
 pub returns : goal.returns
-returns c = off _ _ c.pop-q.ensures
+returns c = off _ _ c.pop-self.ensures

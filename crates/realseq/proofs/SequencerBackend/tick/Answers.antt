@@ -1,7 +1,8 @@
 -- `realseq::SequencerBackend::tick` meets its contract.
-use Rattle.std.proofs.Common.{◌≡◌, List, ap, ◌∙◌, rules}
+use Rattle.std.proofs.Common.{arith, refl, ◌≡◌, List, ap, ◌∙◌}
 use lib.Ieee.{Float}
 use Rattle.event.specs.declared.MixOrder.{MixOrder}
+use Rattle.refusals.specs.Numbers.{refused_is, taken_is}
 use Rattle.sequencer.specs.declared.Outcome as Engine
 use Rattle.sequencer.specs.Answers as Engines
 use Rattle.sequencer.specs.Rendering.{rendered_tick, rendered_tick_out}
@@ -23,18 +24,19 @@ module _ (order : MixOrder) (pool : List Float) (d e : SequencerBackend) (h : e 
   sounded : (out o : List Float) → o ≡ rendered_tick_out order pool e.sequencer out → o ≡ rendered_tick_out order pool (drained d).sequencer out
   sounded out o q = q ∙ ap (λ (b : SequencerBackend). rendered_tick_out order pool b.sequencer out) h
 
-pub returns-then-no-ne0 : goal.returns-then-no-ne0
+pub returns-in-Some : goal.returns-in-Some
 unfolding ticks tick_outs
-returns-then-no-ne0 c =
-    let no = c.tick_refusal-no.ensures in
-    (refused _ _ no _ _ c.if-no-ne0.true, unheard _ _ no _ _ c.if-no-ne0.true)
+returns-in-Some c =
+    let r = refused_is _ _ _ c.tick_refusal.ensures c.in-Some.is in
+    let e = c.number.ensures ∙ r.0 in
+    let some : c.number.result ≡ 0 → ⊥ = λ z. omega (arith, r.1, e, z) in
+    (refused _ _ e _ _ some, unheard _ _ e _ _ some)
 
 pub returns : goal.returns
 unfolding ticks tick_outs
 returns c =
     let a = c.args in
-    let some = c.if-no-ne0.false in
-    let no = c.tick_refusal-no.ensures in (
-      done _ _ no _ _ _ some (stepped a.order a.pool.now a.self c.drain-d.result c.drain-d.ensures _ _ c.render_tick-r.ensures.0 c.after_step.ensures),
-      heard _ _ no a.out.now _ _ some (sounded a.order a.pool.now a.self c.drain-d.result c.drain-d.ensures a.out.now _ c.render_tick-r.ensures.1),
+    let none = taken_is _ _ c.tick_refusal.ensures c.in_default.is in (
+      done _ _ refl _ _ _ none (stepped a.order a.pool.now a.self c.drain-d.result c.drain-d.ensures _ _ c.render_tick-r.ensures.0 c.after_step.ensures),
+      heard _ _ refl a.out.now _ _ none (sounded a.order a.pool.now a.self c.drain-d.result c.drain-d.ensures a.out.now _ c.render_tick-r.ensures.1),
     )

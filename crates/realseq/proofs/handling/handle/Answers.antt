@@ -1,6 +1,5 @@
 -- `realseq::handling::handle` meets its contract. Assumes nothing.
-use Rattle.std.proofs.Common.{◌≡◌, sym, ap, ◌∙◌, rules}
-use lib.Ieee.{Float}
+use Rattle.std.proofs.Common.{◌≡◌, sym, ap, ◌∙◌}
 use Rattle.event.specs.declared.Edit.{Edit}
 use Rattle.event.specs.declared.Event.{Event}
 use Rattle.event.specs.declared.EventId.{EventId}
@@ -48,7 +47,7 @@ pub returns-in-PushRelative : goal.returns-in-PushRelative
 returns-in-PushRelative c = on-relative _ _ _ _ c.in-PushRelative.is c.push_relative_event.ensures
 
 pub returns-in-Edit : goal.returns-in-Edit
-returns-in-Edit c = on-edit _ _ _ _ _ c.in-Edit.is c.change-r.ensures
+returns-in-Edit c = on-edit _ _ _ _ _ c.in-Edit.is c.change.ensures
 
 pub returns-in-EditRelative : goal.returns-in-EditRelative
-returns-in-EditRelative c = on-edit-relative _ _ _ _ _ c.in-EditRelative.is c.change-r-in-EditRelative.ensures
+returns-in-EditRelative c = on-edit-relative _ _ _ _ _ c.in-EditRelative.is c.change-in-EditRelative.ensures

@@ -1,5 +1,5 @@
 -- `sequencer::Sequencer::active_to_past` meets its contract.
-use Rattle.std.proofs.Common.{◌≡◌, ℕ, ◌-◌, get_or, sym, refl, ap, ◌∙◌, subst, arith, rules}
+use Rattle.std.proofs.Common.{◌≡◌, ℕ, get_or, sym, refl, ap, ◌∙◌, subst, arith}
 use lib.Ieee.{Float}
 use Rattle.event.specs.Blank.{blank}
 use Rattle.sequencer.specs.declared.Sequencer.{Sequencer}

@@ -1,5 +1,5 @@
 -- `sequencer::Sequencer::advance` meets its contract.
-use Rattle.std.proofs.Common.{◌≡◌, refl, ap, ◌∙◌, rules}
+use Rattle.std.proofs.Common.{◌≡◌, refl, ap, ◌∙◌}
 use lib.Ieee.{Float, of_bits}
 use Rattle.event.specs.declared.ReplayMode.{ReplayMode}
 use Rattle.event.specs.declared.ReplayMode.TheVariants.{All, None}
@@ -27,4 +27,4 @@ advanced_by_lem s a b t e r p q =
 
 pub returns : goal.returns
 unfolding of_bits
-returns c = advanced_by_lem c.args.self _ _ _ _ c.release_past-s.ensures c.ready_to_active-s.ensures c.active_to_past-s.ensures
+returns c = advanced_by_lem c.args.self _ _ _ _ c.release_past.ensures c.ready_to_active.ensures c.active_to_past-s.ensures

@@ -1,5 +1,4 @@
 -- `sequencer::Sequencer::change` meets its contract. Assumes nothing.
-use Rattle.std.proofs.Common.{rules}
 use Rattle.sequencer.proofs.Sequencer.change.Goals as goal
 
 pub returns : goal.returns

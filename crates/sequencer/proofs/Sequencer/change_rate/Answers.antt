@@ -1,5 +1,4 @@
 -- `sequencer::Sequencer::change_rate` meets its contract. Assumes nothing.
-use Rattle.std.proofs.Common.{rules}
 use lib.Ieee.{of_bits, neg, div}
 use Rattle.sequencer.specs.Resets.{re_rated}
 use Rattle.sequencer.proofs.Sequencer.change_rate.Goals as goal

@@ -1,7 +1,6 @@
 -- `sequencer::Sequencer::edit_relative` meets its contract. Assumes nothing.
 use Rattle.ledger.specs.Refusals.{edit_end}
 use Rattle.sequencer.specs.Edits.{edits}
-use Rattle.std.proofs.Common.{rules}
 use Rattle.sequencer.proofs.Sequencer.edit_relative.Goals as goal
 
 pub returns : goal.returns

@@ -1,22 +1,21 @@
 -- `sequencer::Sequencer::mix_tick` meets its contract.
-use Rattle.std.proofs.Common.{◌≡◌, ◌-◌, refl, ap, ◌∙◌, ap₂, rules}
+use Rattle.std.proofs.Common.{refl, ap, ap₂}
 use lib.Ieee.{Float, of_bits}
-use Rattle.floats.specs.Arithmetic.{zeroᶠ, ◌+ˢ◌}
-use Rattle.ledger.specs.TickSamples.{after_tick}
+use Rattle.floats.specs.Arithmetic.{◌+ˢ◌}
 use Rattle.sequencer.specs.declared.Sequencer.{Sequencer}
-use Rattle.sequencer.specs.Rendering.{add_tick, tick_pass}
-use Rattle.sequencer.specs.Passing.{Passing, passing_start, passing_on, passing_end}
+use Rattle.sequencer.specs.Rendering.{tick_pass}
+use Rattle.sequencer.specs.Passing.{passing_start, passing_on, passing_end}
 use Rattle.sequencer.proofs.Sequencer.mix_tick.Goals as goal
 
 pub loop-i-init : goal.loop-i-init
 unfolding of_bits
-loop-i-init c = passing_start c.least-m.ensures refl
+loop-i-init c = passing_start c.min-m.ensures refl
 
 pub loop-i-preserved : goal.loop-i-preserved
 loop-i-preserved c =
     let p = c.before.before.before in
     let l = p.loop-i in
-    passing_on p.mix_place-place.ensures.0 c.after_tick-event.ensures (ap (λ (x : Float). l.sum +ˢ x) c.tick_sample-sum.ensures) p.loop-i-test.true l.invariant
+    passing_on p.mix_place-place.ensures.0 c.after_tick.ensures (ap (λ (x : Float). l.sum +ˢ x) c.tick_sample-sum.ensures) p.loop-i-test.true l.invariant
 
 pub returns : goal.returns
 unfolding tick_pass

@@ -1,5 +1,5 @@
 -- `sequencer::Sequencer::new` meets its contract. Assumes nothing.
-use Rattle.std.proofs.Common.{sym, ◌∙◌, rules}
+use Rattle.std.proofs.Common.{sym, ◌∙◌}
 use Rattle.sequencer.specs.Creation.{created}
 use Rattle.sequencer.proofs.Sequencer.new.Goals as goal
 

@@ -1,5 +1,5 @@
 -- `sequencer::Sequencer::pop_ready` meets its contract.
-use Rattle.std.proofs.Common.{ap, rules}
+use Rattle.std.proofs.Common.{ap}
 use Rattle.sequencer.specs.Moves.{with_heap, popped_ready}
 use Rattle.sequencer.proofs.Sequencer.pop_ready.Goals as goal
 

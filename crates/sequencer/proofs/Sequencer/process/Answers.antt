@@ -1,15 +1,18 @@
 -- `sequencer::Sequencer::process` meets its contract.
-use Rattle.std.proofs.Common.{rules, eq-eqb, ne_eqb}
+use Rattle.std.proofs.Common.{eq-eqb}
+use Rattle.refusals.specs.Numbers.{refused_is, taken_is}
+use Rattle.sequencer.specs.Outcomes.{not_zero}
 use Rattle.sequencer.specs.Rendering.{blocks, block_outs}
 use Rattle.sequencer.proofs.Sequencer.process.Goals as goal
 
-pub returns-then-no-ne0 : goal.returns-then-no-ne0
+pub returns-in-Some : goal.returns-in-Some
 unfolding blocks block_outs
-returns-then-no-ne0 c = (rw (← c.process_refusal-no.ensures, ne_eqb _ 0 c.if-no-ne0.true), rw (← c.process_refusal-no.ensures, ne_eqb _ 0 c.if-no-ne0.true))
+returns-in-Some c =
+    let k = refused_is _ _ _ c.process_refusal-no.ensures c.in-Some.is in
+    (rw (not_zero _ k.1, c.number.ensures, k.0), rw (not_zero _ k.1))
 
 pub returns : goal.returns
 unfolding blocks block_outs
 returns c =
-    let no = c.process_refusal-no.ensures in
-    let none = eq-eqb _ 0 c.if-no-ne0.false in
-    (rw (← no, none) c.render_block.ensures.0, rw (← no, none) c.render_block.ensures.1)
+    let none = eq-eqb _ 0 (taken_is _ _ c.process_refusal-no.ensures c.in_default.is) in
+    (rw none c.render_block.ensures.0, rw none c.render_block.ensures.1)

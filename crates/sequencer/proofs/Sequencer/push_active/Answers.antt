@@ -1,5 +1,5 @@
 -- `sequencer::Sequencer::push_active` meets its contract.
-use Rattle.std.proofs.Common.{rules, le-ltb, lt-ltb}
+use Rattle.std.proofs.Common.{le-ltb, lt-ltb}
 use Rattle.sequencer.specs.Moves.{pushed_active}
 use Rattle.sequencer.proofs.Sequencer.push_active.Goals as goal
 

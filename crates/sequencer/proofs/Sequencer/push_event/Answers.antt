@@ -1,5 +1,4 @@
 -- `sequencer::Sequencer::push_event` meets its contract.
-use Rattle.std.proofs.Common.{rules}
 use Rattle.sequencer.specs.Moves.{pushed_event}
 use Rattle.sequencer.proofs.Sequencer.push_event.Goals as goal
 

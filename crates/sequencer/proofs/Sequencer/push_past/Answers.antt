@@ -1,5 +1,5 @@
 -- `sequencer::Sequencer::push_past` meets its contract.
-use Rattle.std.proofs.Common.{rules, le-ltb, lt-ltb}
+use Rattle.std.proofs.Common.{le-ltb, lt-ltb}
 use Rattle.sequencer.specs.Moves.{pushed_past}
 use Rattle.sequencer.proofs.Sequencer.push_past.Goals as goal
 

@@ -1,5 +1,5 @@
 -- `sequencer::Sequencer::push_ready` meets its contract.
-use Rattle.std.proofs.Common.{ap, rules}
+use Rattle.std.proofs.Common.{ap}
 use Rattle.sequencer.specs.Moves.{with_heap, pushed_ready}
 use Rattle.sequencer.proofs.Sequencer.push_ready.Goals as goal
 

@@ -1,5 +1,4 @@
 -- `sequencer::Sequencer::push_relative` meets its contract. Assumes nothing.
-use Rattle.std.proofs.Common.{rules}
 use Rattle.ledger.specs.Refusals.{stated_end}
 use Rattle.ledger.specs.Steps.{pushed_time}
 use Rattle.sequencer.specs.Pushes.{pushes}

@@ -1,5 +1,4 @@
 -- `sequencer::Sequencer::push_relative_event` meets its contract. Assumes nothing.
-use Rattle.std.proofs.Common.{rules}
 use Rattle.sequencer.specs.Moves.{pushed_relative}
 use Rattle.sequencer.proofs.Sequencer.push_relative_event.Goals as goal
 

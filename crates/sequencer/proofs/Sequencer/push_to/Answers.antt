@@ -1,15 +1,16 @@
 -- `sequencer::Sequencer::push_to` meets its contract.
-use Rattle.std.proofs.Common.{◌≡◌, ℕ, ◌+◌, ◌%◌, ◌^◌, min, false, eqb, sym, ap, ◌∙◌, rules, eq-eqb, ne_eqb}
+use Rattle.std.proofs.Common.{◌≡◌, ℕ, ◌+◌, ◌%◌, ◌^◌, min, false, eqb, sym, refl, ap, ◌∙◌, arith, eq-eqb}
 use lib.Ieee.{Float}
 use Rattle.event.specs.declared.Event.{Event}
 use Rattle.event.specs.declared.Fade.{Fade}
 use Rattle.event.specs.declared.Source.{Source}
 use Rattle.event.specs.Events.{new_event}
+use Rattle.refusals.specs.Numbers.{refused_is, taken_is}
 use Rattle.refusals.specs.Refusals.{push_refusal}
 use Rattle.sequencer.specs.declared.Sequencer.{Sequencer}
 use Rattle.sequencer.specs.declared.Pushed.{Pushed}
 use Rattle.sequencer.specs.declared.Answer.TheVariants.{Number}
-use Rattle.sequencer.specs.Outcomes.{refuses}
+use Rattle.sequencer.specs.Outcomes.{refuses, not_zero}
 use Rattle.sequencer.specs.Parts.{with_next}
 use Rattle.sequencer.specs.Moves.{pushed_event}
 use Rattle.sequencer.specs.Pushes.{pushes_to, admitted}
@@ -46,10 +47,12 @@ module _ (s : Sequencer) (start end lasts from until : Float) (curve : Fade) (fa
       (ap (λ (x : Sequencer). given x next rise) (ht ∙ ap (pushed_event s) he) ∙ ap (λ (m : ℕ). given (pushed_event s new) m rise) hn
       ∙ ap (given (pushed_event s new) ((s.next + 1) % 2 ^ 64)) (hr ∙ ap (rise_of s) he))
 
-pub returns-then-no-ne0 : goal.returns-then-no-ne0
-returns-then-no-ne0 c = refused _ _ _ _ _ _ _ _ _ _ _ _ _ c.held-n.ensures c.push_refusal-no.ensures (ne_eqb _ _ c.if-no-ne0.true)
+pub returns-in-Some : goal.returns-in-Some
+returns-in-Some c =
+    let k = refused_is _ _ _ c.push_refusal-no.ensures c.in-Some.is in
+    rw c.number.ensures (refused _ _ _ _ _ _ _ _ _ _ _ _ _ c.held-n.ensures k.0 (not_zero _ (omega (arith, k.0, k.1))))
 
 pub returns : goal.returns
 returns c =
-    accepted _ _ _ _ _ _ _ _ _ _ _ _ _ c.held-n.ensures c.push_refusal-no.ensures c.if-no-ne0.false
-    _ _ _ _ c.new-event.ensures c.wrapping_add_u64-next.ensures.value c.push_event-s.ensures c.rise_of-rise.ensures
+    accepted _ _ _ _ _ _ _ _ _ _ _ _ _ c.held-n.ensures refl (taken_is _ _ c.push_refusal-no.ensures c.in_default.is)
+    _ _ _ _ c.new-event.ensures refl c.push_event-s.ensures c.rise_of-rise.ensures

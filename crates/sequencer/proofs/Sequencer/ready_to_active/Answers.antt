@@ -1,11 +1,11 @@
 -- `sequencer::Sequencer::ready_to_active` meets its contract.
-use Rattle.std.proofs.Common.{◌≡◌, ◌<◌, sym, refl, ap, ◌∙◌, subst, arith, rules}
+use Rattle.std.proofs.Common.{◌≡◌, ◌<◌, sym, refl, ap, ◌∙◌, subst, arith}
 use Rattle.std.specs.Prelude.{slice_index_or}
 use borrow.Author.Tests.{not-true, not-false}
 use lib.Ieee.{of_bits}
 use Rattle.event.specs.Blank.{blank}
 use Rattle.sequencer.specs.declared.Sequencer.{Sequencer}
-use Rattle.sequencer.specs.Moves.{activated, ready_to_active}
+use Rattle.sequencer.specs.Moves.{ready_to_active}
 use Rattle.sequencer.specs.Turns.{Activating, activated_len, activated-none, activated-beyond, activated-late, activating_on}
 use Rattle.sequencer.proofs.Sequencer.ready_to_active.Goals as goal
 

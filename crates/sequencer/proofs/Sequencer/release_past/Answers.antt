@@ -1,5 +1,5 @@
 -- `sequencer::Sequencer::release_past` meets its contract. Assumes nothing.
-use Rattle.std.proofs.Common.{ℕ, ◌∙◌, ap₂, rules}
+use Rattle.std.proofs.Common.{ℕ, ◌∙◌, ap₂}
 use Rattle.sequencer.specs.Parts.{with_past, with_let_go}
 use Rattle.sequencer.specs.Turns.{released}
 use Rattle.sequencer.proofs.Sequencer.release_past.Goals as goal

@@ -1,5 +1,5 @@
 -- `sequencer::Sequencer::render_tick` meets its contract.
-use Rattle.std.proofs.Common.{◌≡◌, List, length, replicate, ap, ◌∙◌, rules}
+use Rattle.std.proofs.Common.{◌≡◌, List, length, replicate, ap, ◌∙◌}
 use lib.Ieee.{Float}
 use Rattle.event.specs.declared.MixOrder.{MixOrder}
 use Rattle.sequencer.specs.declared.Sequencer.{Sequencer}

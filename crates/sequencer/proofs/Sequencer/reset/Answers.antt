@@ -1,5 +1,5 @@
 -- `sequencer::Sequencer::reset` meets its contract. Assumes nothing.
-use Rattle.std.proofs.Common.{◌≡◌, ℕ, ◌+◌, ◌%◌, ◌^◌, min, sym, ap, ◌∙◌, rules}
+use Rattle.std.proofs.Common.{refl, ◌≡◌, ℕ, ◌+◌, ◌%◌, ◌^◌, min, sym, ap, ◌∙◌}
 use lib.Ieee.{of_bits, neg, div}
 use Rattle.event.specs.declared.ReplayMode.TheVariants.{All, None}
 use Rattle.floats.specs.Arithmetic.{zeroᶠ, -∞}
@@ -27,12 +27,12 @@ reset-none s {m = m} p q r w e o =
 
 pub returns-in-All : goal.returns-in-All
 unfolding of_bits neg div
-returns-in-All c = reset-all c.args.self c.all_to_ready-s.ensures c.rewind_ready-s.ensures c.in-All.is
+returns-in-All c = reset-all c.args.self c.all_to_ready.ensures c.rewind_ready-s.ensures c.in-All.is
 
 pub returns-in-None : goal.returns-in-None
 unfolding of_bits neg div
 returns-in-None c =
     let n = c.before.before.before in
     let k = n.before.before.before in
-    reset-none k.args.self n.least.ensures n.least-in-None.ensures n.least-in-None-2.ensures
-    c.wrapping_add_u64.ensures.value c.cleared_edits-edits.ensures k.in-None.is
+    reset-none k.args.self n.min.ensures n.min-in-None.ensures n.min-in-None-2.ensures
+    refl c.cleared_edits-self.ensures k.in-None.is

@@ -1,5 +1,4 @@
 -- `sequencer::Sequencer::rise_of` meets its contract.
-use Rattle.std.proofs.Common.{rules}
 use Rattle.sequencer.specs.Rises.{rise_ready, rise_of}
 use Rattle.sequencer.proofs.Sequencer.rise_of.Goals as goal
 

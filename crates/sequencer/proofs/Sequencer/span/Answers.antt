@@ -1,5 +1,5 @@
 -- `sequencer::Sequencer::span` meets its contract.
-use Rattle.std.proofs.Common.{sym, ap, ◌∙◌, rules}
+use Rattle.std.proofs.Common.{sym, ap, ◌∙◌}
 use lib.Ieee.{Float}
 use Rattle.floats.specs.Arithmetic.{◌+ᵈ◌, ◌×ᵈ◌}
 use Rattle.floats.specs.WholeIs.{whole_is}

@@ -1,5 +1,5 @@
 -- `sequencer::Sequencer::swap_remove` meets its contract.
-use Rattle.std.proofs.Common.{rules, lt-ltb, le-leb}
+use Rattle.std.proofs.Common.{lt-ltb, le-leb}
 use Rattle.sequencer.specs.Moves.{swap_removed}
 use Rattle.sequencer.proofs.Sequencer.swap_remove.Goals as goal
 

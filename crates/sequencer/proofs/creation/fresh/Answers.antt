@@ -1,5 +1,4 @@
 -- `sequencer::creation::fresh` meets its contract. Assumes nothing.
-use Rattle.std.proofs.Common.{rules}
 use lib.Ieee.{of_bits, round, neg, div}
 use Rattle.floats.specs.Arithmetic.{whole}
 use Rattle.sequencer.specs.Creation.{fresh_engine}
@@ -7,4 +6,4 @@ use Rattle.sequencer.proofs.creation.fresh.Goals as goal
 
 pub returns : goal.returns
 unfolding fresh_engine whole of_bits round neg div
-returns c = rw (c.new-heap.ensures, c.new-edits.ensures)
+returns c = rw (c.new.ensures, c.new-2.ensures)

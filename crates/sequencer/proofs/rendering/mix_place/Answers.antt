@@ -1,5 +1,5 @@
 -- `sequencer::rendering::mix_place` meets its contract. Assumes nothing.
-use Rattle.std.proofs.Common.{arith, rules}
+use Rattle.std.proofs.Common.{arith}
 use Rattle.sequencer.proofs.rendering.mix_place.Goals as goal
 
 pub returns-in-Forward : goal.returns-in-Forward

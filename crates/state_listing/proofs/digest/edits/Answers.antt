@@ -1,20 +1,17 @@
--- `state_listing::digest::edits` meets its contract, round by round. Assumes nothing.
-use Rattle.std.proofs.Common.{ℕ, ◌+◌, ◌-◌, ◌%◌, ◌^◌, get_or, ap, ◌∙◌, rules}
-use Rattle.lists.specs.declared.EditMap.{EditMap}
+-- `state_listing::digest::edits` meets its contract: the fold is its digest. Assumes nothing.
+use Rattle.std.proofs.Common.{◌≡◌, ℕ, ◌+◌, ◌%◌, ◌^◌, ◌≤◌, length, take, ◌∙◌, arith, rules}
+use Rattle.std.specs.List.{fold}
+use Rattle.event.specs.declared.StoredEdit.{StoredEdit}
 use Rattle.lists.specs.Edits.{no_edit}
-use Rattle.digests.specs.Digests.{mixed_all}
-use Rattle.state_listing.specs.Digests.{edit_words, each, edits_digest}
-use Rattle.state_listing.proofs.Running.{Running, running, running_on, run_through}
+use Rattle.digests.specs.Digests.{mixed, mixed_all}
+use Rattle.state_listing.specs.Digests.{event_words, edit_words, edits_digest}
+use Rattle.state_listing.proofs.Folding.{folded}
 use Rattle.state_listing.proofs.digest.edits.Goals as goal
-use Rattle.state_listing.proofs.digest.edits.Invariants.{one}
-
-pub loop-i-init : goal.loop-i-init
-loop-i-init c = running _ _
-
-pub loop-i-preserved : goal.loop-i-preserved
-loop-i-preserved c =
-    running_on _ _ c.loop-i-test.true (c.wrapping_add_u64-digest.ensures.value ∙ ap (λ (x : ℕ). (c.loop-i.digest + x) % 2 ^ 64) c.mixed_edit.ensures) c.loop-i.invariant
 
 pub returns : goal.returns
 unfolding edits_digest
-returns c = run_through _ _ c.loop-i-test.false c.loop-i.invariant ∙ ap (λ (m : ℕ). each (one c.args.map) m 0 0) c.least-most.ensures
+returns c =
+    let g : ℕ → StoredEdit → ℕ = λ d s. (d + mixed_all 0 (edit_words s.id s.edit)) % 2 ^ 64 in
+    let l : length c.args.map.items ≡ 256 = search rules in
+    let f : c.fold.result ≡ fold g 0 (take c.min.result c.args.map.items) = search rules in
+    f ∙ folded g no_edit _ _ _ c.min.ensures (omega (arith, c.min.ensures, l))

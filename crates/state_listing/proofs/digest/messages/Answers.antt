@@ -1,19 +1,17 @@
--- `state_listing::digest::messages` meets its contract, round by round. Assumes nothing.
-use Rattle.std.proofs.Common.{◌≡◌, ℕ, ◌-◌, ◌%◌, refl, ap, ◌∙◌, rules}
-use Rattle.realseq.specs.declared.queues.Messages.{Messages}
-use Rattle.realseq.specs.Queues.{at}
-use Rattle.digests.specs.Digests.{mixed_all}
-use Rattle.state_listing.specs.Digests.{message_words, each, messages_digest}
-use Rattle.state_listing.proofs.Running.{Running, running, running_on, run_through}
+-- `state_listing::digest::messages` meets its contract: what is left of the queue goes into the digest. Assumes nothing.
+use Rattle.std.proofs.Common.{◌≤◌, min, sym, ◌∙◌, arith, rules}
+use Rattle.state_listing.specs.Digests.{messages_digest}
+use Rattle.state_listing.proofs.Folding.{starts, goes_on, ends}
 use Rattle.state_listing.proofs.digest.messages.Goals as goal
-use Rattle.state_listing.proofs.digest.messages.Invariants.{one}
 
 pub loop-i-init : goal.loop-i-init
-loop-i-init c = running _ _
+loop-i-init c = starts _ _
 
 pub loop-i-preserved : goal.loop-i-preserved
-loop-i-preserved c = running_on _ _ c.loop-i-test.true c.mixed_message-digest.ensures c.loop-i.invariant
+loop-i-preserved c = goes_on _ _ _ _ _ (omega (arith, c.loop-i-test.true, c.min-i-end.ensures)) c.mixed_message-digest.ensures ∙ c.loop-i.invariant
 
 pub returns : goal.returns
 unfolding messages_digest
-returns c = run_through _ _ c.loop-i-test.false c.loop-i.invariant ∙ ap (λ (m : ℕ). each (one c.args.q) m 0 0) c.least-most.ensures
+returns c =
+    let l : min c.args.q.count 64 ≤ c.loop-i.i = omega (arith, c.loop-i-test.false, c.min-i-end.ensures) in
+    sym (ends _ _ _ _ l) ∙ c.loop-i.invariant

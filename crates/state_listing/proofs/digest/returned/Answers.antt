@@ -1,19 +1,17 @@
--- `state_listing::digest::returned` meets its contract, round by round. Assumes nothing.
-use Rattle.std.proofs.Common.{ℕ, ◌-◌, get_or, ap, ◌∙◌, rules}
-use Rattle.realseq.specs.declared.queues.Returned.{Returned}
+-- `state_listing::digest::returned` meets its contract: the fold is its digest. Assumes nothing.
+use Rattle.std.proofs.Common.{◌≡◌, ℕ, ◌+◌, ◌%◌, ◌^◌, ◌≤◌, length, take, ◌∙◌, arith, rules}
+use Rattle.std.specs.List.{fold}
+use Rattle.event.specs.declared.EventId.{EventId}
 use Rattle.lists.specs.Index.{no_id}
-use Rattle.digests.specs.Digests.{mixed}
-use Rattle.state_listing.specs.Digests.{each, returned_digest}
-use Rattle.state_listing.proofs.Running.{Running, running, running_on, run_through}
+use Rattle.digests.specs.Digests.{mixed, mixed_all}
+use Rattle.state_listing.specs.Digests.{event_words, edit_words, returned_digest}
+use Rattle.state_listing.proofs.Folding.{folded}
 use Rattle.state_listing.proofs.digest.returned.Goals as goal
-use Rattle.state_listing.proofs.digest.returned.Invariants.{one}
-
-pub loop-i-init : goal.loop-i-init
-loop-i-init c = running _ _
-
-pub loop-i-preserved : goal.loop-i-preserved
-loop-i-preserved c = running_on _ _ c.loop-i-test.true c.mixed-digest.ensures c.loop-i.invariant
 
 pub returns : goal.returns
 unfolding returned_digest
-returns c = run_through _ _ c.loop-i-test.false c.loop-i.invariant ∙ ap (λ (m : ℕ). each (one c.args.r) m 0 0) c.least-most.ensures
+returns c =
+    let g : ℕ → EventId → ℕ = λ d k. mixed d k.0 in
+    let l : length c.args.r.ids ≡ 64 = search rules in
+    let f : c.fold.result ≡ fold g 0 (take c.min.result c.args.r.ids) = search rules in
+    f ∙ folded g no_id _ _ _ c.min.ensures (omega (arith, c.min.ensures, l))

@@ -1,20 +1,21 @@
--- `state_listing::digest::unordered_events` meets its contract, round by round. Assumes nothing.
-use Rattle.std.proofs.Common.{ℕ, ◌+◌, ◌-◌, ◌%◌, ◌^◌, List, get_or, ap, ◌∙◌, rules}
+-- `state_listing::digest::unordered_events` meets its contract: the fold is its digest. Assumes nothing.
+use Rattle.std.proofs.Common.{◌≡◌, ℕ, ◌+◌, ◌%◌, ◌^◌, ◌≤◌, length, take, ◌∙◌, arith, rules}
+use Rattle.std.specs.List.{fold}
 use Rattle.event.specs.declared.Event.{Event}
 use Rattle.event.specs.Blank.{blank}
-use Rattle.digests.specs.Digests.{mixed_all}
-use Rattle.state_listing.specs.Digests.{event_words, each, unordered_events}
-use Rattle.state_listing.proofs.Running.{Running, running, running_on, run_through}
+use Rattle.digests.specs.Digests.{mixed, mixed_all}
+use Rattle.state_listing.specs.Digests.{event_words, edit_words, unordered_events}
+use Rattle.state_listing.proofs.Folding.{folded}
 use Rattle.state_listing.proofs.digest.unordered_events.Goals as goal
-use Rattle.state_listing.proofs.digest.unordered_events.Invariants.{one}
 
-pub loop-i-init : goal.loop-i-init
-loop-i-init c = running _ _
+abbrev one : ℕ → Event → ℕ
+one = λ d e. (d + mixed_all 0 (event_words e)) % 2 ^ 64
 
-pub loop-i-preserved : goal.loop-i-preserved
-loop-i-preserved c =
-    running_on _ _ c.loop-i-test.true (c.wrapping_add_u64-digest.ensures.value ∙ ap (λ (x : ℕ). (c.loop-i.digest + x) % 2 ^ 64) c.mixed_event.ensures) c.loop-i.invariant
+folds : (c : goal.After-fold) → c.fold.result ≡ fold one 0 (take c.min.result c.args.items)
+folds c = search rules
 
 pub returns : goal.returns
 unfolding unordered_events
-returns c = run_through _ _ c.loop-i-test.false c.loop-i.invariant ∙ ap (λ (m : ℕ). each (one c.args.items) m 0 0) c.least-most.ensures
+returns c =
+    let l : length c.args.items ≡ 256 = search rules in
+    folds c ∙ folded one blank _ _ _ c.min.ensures (omega (arith, c.min.ensures, l))

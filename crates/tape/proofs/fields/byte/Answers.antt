@@ -1,5 +1,5 @@
 use lib.ListN.{get_or-eq_default}
-use Rattle.std.proofs.Common.{◌≡◌, sym, refl, ap, ◌∙◌, subst, rules}
+use Rattle.std.proofs.Common.{sym}
 use Rattle.tape.proofs.fields.byte.Goals as goal
 
 pub returns-else-i-bs : goal.returns-else-i-bs

@@ -1,31 +1,36 @@
-use Rattle.std.proofs.Common.{◌≡◌, ℕ, suc, ◌+◌, ◌-◌, ◌*◌, ◌^◌, ◌<◌, ◌≤◌, min, length, get_or, take, drop, sym, refl, ap, ◌∙◌, subst, le_refl, arith, rules, le-ltb, lt-ltb, eq-eqb, ne_eqb, le-leb}
-use borrow.Author.Tests.{lt-leb}
+use Rattle.std.proofs.Common.{◌≡◌, ℕ, ◌≤◌, min, take, drop, sym, ap, ◌∙◌, subst, arith}
 use Rattle.tape.specs.Fields.{from_little_endian, field, none_yet, next-byte, next_fits}
 use Rattle.tape.proofs.fields.low.Goals as goal
 
 pub loop-i-init : goal.loop-i-init
-loop-i-init c = (le_refl _, (omega (arith, c.least-i.ensures), none_yet c.least-i.result c.args.bs.now))
+loop-i-init c =
+    let bs = c.args.bs.now in
+    let w = min c.args.width 8 in
+    none_yet w bs ∙ ap (λ (i : ℕ). from_little_endian (drop i (take w bs))) (sym c.min-i.ensures)
 
 pub overflow_mul-n : goal.overflow_mul-n
-overflow_mul-n c = omega (arith, next_fits _ _ _ _ (λ i. (c.shared_slice_known-1.given i).fits) c.loop-i.invariant.1.0 c.loop-i-test.true c.loop-i.invariant.0 c.loop-i.invariant.1.1)
+overflow_mul-n c =
+    let l = c.loop-i in
+    let within : l.i ≤ min c.args.width 8 = subst (λ (k : ℕ). l.i ≤ k) c.min-i.ensures l.auto.i in
+    let h = next_fits (min c.args.width 8) c.args.bs.now l.i l.n (λ i. (c.type_inv.bs i).fits) (omega arith) c.loop-i-test.true within l.invariant in
+    record { fits = omega arith }
 
 pub overflow_add-n : goal.overflow_add-n
 overflow_add-n c =
-    let l = c.before in
-    let i = l.loop-i.invariant in
-    let h = next_fits _ _ _ _ (λ j. (l.shared_slice_known-1.given j).fits) i.1.0 c.loop-i-test.true i.0 i.1.1 in
-    omega (arith, h, c.wide.ensures, c.byte.ensures)
+    let l = c.loop-i in
+    let within : l.i ≤ min c.args.width 8 = subst (λ (k : ℕ). l.i ≤ k) c.min-i.ensures l.auto.i in
+    let h = next_fits (min c.args.width 8) c.args.bs.now l.i l.n (λ i. (c.type_inv.bs i).fits) (omega arith) c.loop-i-test.true within l.invariant in
+    let e = c.from.ensures ∙ c.byte.ensures in
+    record { fits = omega arith }
 
 pub loop-i-preserved : goal.loop-i-preserved
 loop-i-preserved c =
-    let i = c.loop-i.invariant in
-    let l = i.0 in
-    (omega arith, (i.1.0, next-byte _ _ _ _ _ c.loop-i-test.true l i.1.1 (c.wide.ensures ∙ c.byte.ensures)))
+    let l = c.loop-i in
+    let within : l.i ≤ min c.args.width 8 = subst (λ (k : ℕ). l.i ≤ k) c.min-i.ensures l.auto.i in
+    next-byte (min c.args.width 8) c.args.bs.now l.i l.n _ c.loop-i-test.true within l.invariant (c.from.ensures ∙ c.byte.ensures)
 
 pub returns : goal.returns
 unfolding field
 returns c =
-    let bs = c.args.bs.now in
-    let n = c.least-i in
     let z : c.loop-i.i ≡ 0 = omega (arith, c.loop-i-test.false) in
-    c.loop-i.invariant.1.1 ∙ ap (λ (k : ℕ). from_little_endian (drop k (take n.result bs))) z ∙ ap (λ (k : ℕ). from_little_endian (take k bs)) n.ensures
+    c.loop-i.invariant ∙ ap (λ (k : ℕ). from_little_endian (drop k (take (min c.args.width 8) c.args.bs.now))) z

@@ -1,5 +1,4 @@
-use Rattle.std.proofs.Common.{◌≡◌, ℕ, suc, ◌+◌, ◌-◌, ◌*◌, ◌^◌, ◌<◌, ◌≤◌, min, List, sym, refl, ap, ◌∙◌, subst, arith, rules, le-ltb, lt-ltb, eq-eqb, ne_eqb, le-leb}
-use borrow.Author.Tests.{lt-leb}
+use Rattle.std.proofs.Common.{ℕ, min, List, sym, ap, ◌∙◌}
 use Rattle.tape.proofs.Rests.{rest_is}
 use Rattle.tape.specs.Fields.{field, field_past}
 use Rattle.tape.proofs.fields.word.Goals as goal

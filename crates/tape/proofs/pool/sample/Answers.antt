@@ -1,5 +1,5 @@
 -- `tape::pool::sample` meets its contract. Assumes nothing.
-use Rattle.std.proofs.Common.{sym, ap, ◌∙◌, rules}
+use Rattle.std.proofs.Common.{sym, ap, ◌∙◌}
 use lib.Ieee.{Float, round, of_bits}
 use Rattle.floats.specs.Arithmetic.{◌÷ᵈ◌, whole}
 use Rattle.floats.specs.WholeIs.{whole_is}

@@ -1,5 +1,4 @@
-use Rattle.std.proofs.Common.{rules, le-ltb, lt-ltb, eq-eqb, ne_eqb, le-leb}
-use borrow.Author.Tests.{lt-leb}
+use Rattle.std.proofs.Common.{eq-eqb, ne_eqb}
 use Rattle.tape.proofs.reader.curve_of.Goals as goal
 
 pub returns-in-0 : goal.returns-in-0

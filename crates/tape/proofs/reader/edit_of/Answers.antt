@@ -1,5 +1,4 @@
 use Rattle.tape.specs.Tape.{edit_of}
-use Rattle.std.proofs.Common.{rules}
 use Rattle.tape.proofs.reader.edit_of.Goals as goal
 
 pub returns : goal.returns

@@ -1,11 +1,12 @@
-use Rattle.std.proofs.Common.{◌≡◌, sym, rules, le-ltb, lt-ltb}
-use Rattle.tape.specs.Tape.{push_kind}
+use Rattle.std.proofs.Common.{arith}
+use Rattle.tape.proofs.Ranges.{push_yes, push_low, push_high}
 use Rattle.tape.proofs.reader.is_push.Goals as goal
 
-pub returns-then-k-gt0 : goal.returns-then-k-gt0
-unfolding push_kind
-returns-then-k-gt0 c = simp (sym c.plain_kind-k.ensures, lt-ltb _ _ c.if-k-gt0.true)
+pub returns-in-1-to-3 : goal.returns-in-1-to-3
+returns-in-1-to-3 c = push_yes c.args.kind c.plain_kind.result c.plain_kind.ensures (omega arith) (omega arith)
 
-pub returns-else-k-gt0 : goal.returns-else-k-gt0
-unfolding push_kind
-returns-else-k-gt0 c = simp (sym c.plain_kind-k.ensures, le-ltb _ _ c.if-k-gt0.false)
+pub returns-in_default : goal.returns-in_default
+returns-in_default c = push_low c.args.kind c.plain_kind.result c.plain_kind.ensures (omega arith)
+
+pub returns-in_default-2 : goal.returns-in_default-2
+returns-in_default-2 c = push_high c.args.kind c.plain_kind.result c.plain_kind.ensures (omega arith) (omega arith)

@@ -1,5 +1,4 @@
 use Rattle.tape.specs.Tape.{push_of}
-use Rattle.std.proofs.Common.{rules}
 use Rattle.tape.proofs.reader.push_of.Goals as goal
 
 pub returns : goal.returns

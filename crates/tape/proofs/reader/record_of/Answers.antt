@@ -1,4 +1,4 @@
-use Rattle.std.proofs.Common.{◌≡◌, sym, ◌∙◌, arith, le-ltb, lt-ltb}
+use Rattle.std.proofs.Common.{sym, ◌∙◌, arith, le-ltb, lt-ltb}
 use Rattle.tape.specs.Tape.{record_of}
 use Rattle.tape.proofs.reader.record_of.Goals as goal
 
@@ -15,4 +15,4 @@ overflow_add-result c = omega (arith, c.if-bs-n.false, c.requires)
 
 pub returns : goal.returns
 unfolding record_of
-returns c = simp (sym c.byte-kind.ensures, sym c.is_unknown.ensures ∙ c.if-is_unknown.false, sym c.size_of-n.ensures, le-ltb _ _ c.if-bs-n.false, sym c.call_of-c.ensures)
+returns c = simp (sym c.byte-kind.ensures, sym c.is_unknown.ensures ∙ c.if-is_unknown.false, sym c.size_of-n.ensures, le-ltb _ _ c.if-bs-n.false, sym c.call_of.ensures)

@@ -1,6 +1,5 @@
 -- `tape_writer::calls::arguments_of` meets its contract. Assumes nothing.
 use lib.Ieee.{of_bits}
-use borrow.Author.Rules.{rules}
 use Rattle.tape_writer.proofs.calls.arguments_of.Goals as goal
 
 pub returns-in-Create : goal.returns-in-Create

@@ -1,6 +1,5 @@
 -- `tape_writer::calls::push_arguments` meets its contract. Assumes nothing.
 use lib.Ieee.{of_bits}
-use borrow.Author.Rules.{rules}
 use Rattle.tape_writer.proofs.calls.push_arguments.Goals as goal
 
 pub returns : goal.returns

@@ -1,6 +1,5 @@
 -- `tape_writer::calls::source_arguments` meets its contract. Assumes nothing.
 use lib.Ieee.{of_bits}
-use borrow.Author.Rules.{rules}
 use Rattle.tape_writer.proofs.calls.source_arguments.Goals as goal
 
 pub returns-in-Held : goal.returns-in-Held

@@ -1,6 +1,6 @@
-use Rattle.std.proofs.Common.{◌-◌, arith, rules}
+use Rattle.std.proofs.Common.{arith, rules}
 use Rattle.listing.specs.Putting.{same-long}
-use Rattle.wav.proofs.Steps.{Frames, first_frame, fits_frame, next_frame, last_frame}
+use Rattle.wav.proofs.Steps.{first_frame, fits_frame, next_frame, last_frame}
 use Rattle.wav.proofs.frames.put_all.Goals as goal
 
 pub loop-place-init : goal.loop-place-init

@@ -1,4 +1,4 @@
-use Rattle.std.proofs.Common.{arith, rules}
+use Rattle.std.proofs.Common.{arith}
 use Rattle.wav.proofs.Steps.{no_frames, too_narrow, too_short, no_room, all-put, product-fits, channels_fit}
 use Rattle.wav.proofs.frames.put_frames.Goals as goal
 

@@ -1,4 +1,4 @@
-use Rattle.std.proofs.Common.{◌∙◌, rules}
+use Rattle.std.proofs.Common.{◌∙◌}
 use Rattle.wav.proofs.Headers.{header_laid}
 use Rattle.wav.proofs.header.header.Goals as goal
 

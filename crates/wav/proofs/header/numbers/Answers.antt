@@ -1,21 +1,7 @@
-use Rattle.std.proofs.Common.{◌*◌, arith, rules}
-use Rattle.wav.specs.Header.{numbers_of}
-use Rattle.wav.proofs.Headers.{product}
 use Rattle.wav.proofs.header.numbers.Goals as goal
 
-pub overflow_mul-data : goal.overflow_mul-data
-overflow_mul-data c = let p = product c.args.frames (c.args.channels * 4) c.requires.fact_3 (let z = c.requires.fact_1 in omega arith) in record { fits = omega arith }
-
-pub overflow_add-size : goal.overflow_add-size
-overflow_add-size c = let p = product c.args.frames (c.args.channels * 4) c.requires.fact_3 (let z = c.requires.fact_1 in omega arith) in record { fits = omega arith }
-
-pub overflow_mul-speed : goal.overflow_mul-speed
-overflow_mul-speed c = let p = product c.args.rate (c.args.channels * 4) c.requires.fact_2 (let z = c.requires.fact_1 in omega arith) in record { fits = omega arith }
-
 pub returns-then-large : goal.returns-then-large
-unfolding numbers_of
-returns-then-large c = rw c.if-large.true
+returns-then-large c = rw c.if-large.true c.large_numbers.ensures
 
-pub returns : goal.returns
-unfolding numbers_of
-returns c = rw c.if-large.false
+pub returns-else-large : goal.returns-else-large
+returns-else-large c = rw c.if-large.false c.small_numbers.ensures

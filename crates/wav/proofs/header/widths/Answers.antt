@@ -1,4 +1,3 @@
-use Rattle.std.proofs.Common.{rules}
 use Rattle.wav.specs.Header.{widths_of}
 use Rattle.wav.proofs.header.widths.Goals as goal
 

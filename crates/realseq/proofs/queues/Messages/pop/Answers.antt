@@ -1,5 +1,5 @@
 -- `realseq::queues::Messages::pop` meets its contract. Assumes nothing.
-use Rattle.std.proofs.Common.{rules, eq-eqb, ne_eqb}
+use Rattle.std.proofs.Common.{eq-eqb, ne_eqb}
 use Rattle.realseq.specs.Queues.{popped}
 use Rattle.realseq.proofs.queues.Messages.pop.Goals as goal
 

@@ -1,5 +1,5 @@
 -- `realseq::queues::Messages::push` meets its contract. Assumes nothing.
-use Rattle.std.proofs.Common.{rules, le-ltb, lt-ltb}
+use Rattle.std.proofs.Common.{le-ltb, lt-ltb}
 use Rattle.realseq.specs.Queues.{pushed}
 use Rattle.realseq.proofs.queues.Messages.push.Goals as goal
 

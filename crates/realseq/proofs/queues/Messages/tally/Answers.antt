@@ -1,35 +1,31 @@
 -- `realseq::queues::Messages::tally` meets its contract. Assumes nothing.
-use Rattle.std.proofs.Common.{◌≡◌, ℕ, ◌+◌, ◌-◌, ◌<◌, ◌≤◌, min, sym, ◌∙◌, arith, rules}
-use Rattle.realseq.specs.Queues.{tally_from, tallied, at}
+use Rattle.std.proofs.Common.{◌≡◌, ◌+◌, ◌-◌, ◌<◌, ◌≤◌, min, arith}
+use Rattle.realseq.specs.Queues.{kind_number, tally_from, at}
 use Rattle.realseq.specs.QueueLaws.{tally_on, tally-none, counted-le, tally-start}
 use Rattle.realseq.proofs.queues.Messages.tally.Goals as goal
 
 pub loop-i-init : goal.loop-i-init
-loop-i-init c = (omega arith, omega arith, tally-start _ _)
+loop-i-init c = (omega arith, tally-start _ _)
 
 pub overflow_add-total : goal.overflow_add-total
 overflow_add-total c =
-    let b = c.before.before.before.before in
-    let h : c.counts-total.result ≤ 1 = rw c.counts-total.ensures (counted-le (at b.args.self b.loop-i.i) b.args.kind) in
-    omega (arith, h)
+    let h : c.counts-total.result ≤ 1 = rw c.counts-total.ensures (counted-le (at c.args.self c.loop-i.i) (kind_number c.args.kind)) in
+    omega (arith, h, c.loop-i.invariant.0)
 
 pub loop-i-preserved : goal.loop-i-preserved
 loop-i-preserved c =
-    let b = c.before.before.before.before in
-    let q = b.args.self in
+    let q = c.args.self in
+    let k = kind_number c.args.kind in
     let m = min q.count 64 in
-    let h : c.counts-total.result ≤ 1 = rw c.counts-total.ensures (counted-le (at q b.loop-i.i) b.args.kind) in
-    let l : b.loop-i.i < m = omega arith in
-    let e : tally_from (m - b.loop-i.i) b.loop-i.i q b.args.kind ≡ c.counts-total.result + tally_from (m - (b.loop-i.i + 1)) (b.loop-i.i + 1) q b.args.kind =
-    rw c.counts-total.ensures (tally_on m b.loop-i.i q b.args.kind l) in
-    (omega arith, omega (arith, h, b.loop-i.invariant.1), omega (arith, e, b.loop-i.invariant.2))
+    let i = c.loop-i.i in
+    let h : c.counts-total.result ≤ 1 = rw c.counts-total.ensures (counted-le (at q i) k) in
+    let l : i < m = omega (arith, c.loop-i-test.true, c.min-i-end.ensures) in
+    let e : tally_from (m - i) i q k ≡ c.counts-total.result + tally_from (m - (i + 1)) (i + 1) q k = rw c.counts-total.ensures (tally_on m i q k l) in
+    (omega (arith, h, c.loop-i.invariant.0), omega (arith, e, c.loop-i.invariant.1))
 
-pub returns-after-loop-i : goal.returns-after-loop-i
-returns-after-loop-i c =
-    let a = c.args in
-    omega (arith, tally-none (min a.self.count 64) c.loop-i.i a.self a.kind (omega arith), c.loop-i.invariant.2)
-
-pub returns-then-n-i : goal.returns-then-n-i
-returns-then-n-i c =
-    let a = c.args in
-    omega (arith, tally-none (min a.self.count 64) c.loop-i.i a.self a.kind (omega arith), c.loop-i.invariant.2)
+pub returns : goal.returns
+returns c =
+    let q = c.args.self in
+    let m = min q.count 64 in
+    let l : m ≤ c.loop-i.i = omega (arith, c.loop-i-test.false, c.min-i-end.ensures) in
+    omega (arith, tally-none m c.loop-i.i q (kind_number c.args.kind) l, c.loop-i.invariant.1)

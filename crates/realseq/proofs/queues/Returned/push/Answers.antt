@@ -1,5 +1,5 @@
 -- `realseq::queues::Returned::push` meets its contract. Assumes nothing.
-use Rattle.std.proofs.Common.{rules, le-ltb, lt-ltb}
+use Rattle.std.proofs.Common.{le-ltb, lt-ltb}
 use Rattle.realseq.specs.Queues.{sent}
 use Rattle.realseq.proofs.queues.Returned.push.Goals as goal
 

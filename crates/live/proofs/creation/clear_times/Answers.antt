@@ -1,8 +1,0 @@
--- `live::creation::clear_times` meets its contract.
-use Rattle.std.proofs.Common.{refl}
-use lib.Ieee.{of_bits}
-use Rattle.live.proofs.creation.clear_times.Goals as goal
-
-pub returns : goal.returns
-unfolding of_bits
-returns c = refl

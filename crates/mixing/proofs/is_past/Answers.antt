@@ -1,9 +1,0 @@
--- `mixing::is_past` meets its contract. Assumes nothing.
-use Rattle.std.proofs.Common.{rules}
-use Rattle.mixing.proofs.is_past.Goals as goal
-
-pub returns-then-a-b : goal.returns-then-a-b
-returns-then-a-b c = rw c.if-a-b.true
-
-pub returns : goal.returns
-returns c = rw c.if-a-b.false

@@ -1,8 +1,0 @@
-use Rattle.std.proofs.Common.{◌-◌, ◌≤◌, rules}
-use Rattle.trail_sheet.proofs.waves.loudest_of.Given as goal
-
-abbrev pub invariant-loop-column : goal.invariant-loop-column
-invariant-loop-column l = l.column ≤ 1401
-
-abbrev pub decreases-loop-column : goal.decreases-loop-column
-decreases-loop-column l = 1401 - l.column
