@@ -250,22 +250,22 @@ fn list_desk<W: Write>(
     Ok(())
 }
 
-// Lists an applied record and the state; false where the listing ends there.
-fn list<W: Write>(out: &mut W, kind: u8, p: Played, samples: &[f32]) -> io::Result<bool> {
+// Lists an applied record and the state; false where the listing ends there, also at a line that was not written.
+// (A `bool`, and `run` answers nothing: with a Result and `?` in its loop the frame holds nearly three desks more, and the program needs 126 KB more stack.)
+fn list<W: Write>(out: &mut W, kind: u8, p: Played, samples: &[f32]) -> bool {
     let d = p.backend;
     let no = refusal(p.answer).unwrap_or(0);
-    if !lines::list(out, kind, no, counts(d), samples, p.sound)? {
-        return Ok(false);
-    }
-    list_desk(out, kind, p.answer, d)?;
-    Ok(true)
+    let Ok(true) = lines::list(out, kind, no, counts(d), samples, p.sound) else {
+        return false;
+    };
+    list_desk(out, kind, p.answer, d).is_ok()
 }
 
 fn silence() -> [f32; 576] {
     [0.0; 576]
 }
 
-fn run<W: Write>(out: &mut W, script: &[u8], whole: &[f32]) -> io::Result<()> {
+fn run<W: Write>(out: &mut W, script: &[u8], whole: &[f32]) {
     let mut samples = silence();
     let made = Sequencer::new(1, event::ReplayMode::All, 1);
     let mut d = SequencerBackend::new(made.sequencer);
@@ -277,35 +277,36 @@ fn run<W: Write>(out: &mut W, script: &[u8], whole: &[f32]) -> io::Result<()> {
         let size = if first { None } else { script_size(kind) };
         if let Some(size) = size {
             if script.len() <= at {
-                return Ok(());
+                return;
             }
             if script.len() - at < size {
-                return lines::list_counts(out, kind, 15, counts(d));
+                let _ = lines::list_counts(out, kind, 15, counts(d));
+                return;
             }
             let bs = &script[at..];
             pool = lent(kind, bs, pool, whole.len());
             let p = play_script(d, kind, bs, &whole[..pool], &mut samples);
             d = p.backend;
-            if !list(out, kind, p, &samples)? {
-                return Ok(());
+            if !list(out, kind, p, &samples) {
+                return;
             }
             at += size;
         } else {
             let c = Cursor { at, first };
             let r = c.read(script);
             let Read::Record { kind, call, next } = r else {
-                return lines::stop(out, r, counts(d));
+                let _ = lines::stop(out, r, counts(d));
+                return;
             };
             let p = play(d, call, &whole[..pool], &mut samples);
             d = p.backend;
-            if !list(out, kind, p, &samples)? {
-                return Ok(());
+            if !list(out, kind, p, &samples) {
+                return;
             }
             first = next.first;
             at = next.at;
         }
     }
-    Ok(())
 }
 
 fn main(rt: HostRuntime) -> io::Result<()> {
@@ -314,6 +315,6 @@ fn main(rt: HostRuntime) -> io::Result<()> {
     let mut out = BufWriter::new(rt.alloc(), rt.stdout())?;
     let pool = tape::pool::trail_pool();
     // A line that was not written ends the listing; the flush says whether the output was written.
-    let _listed = run(&mut out, &buf[..n], &pool);
+    run(&mut out, &buf[..n], &pool);
     out.flush()
 }

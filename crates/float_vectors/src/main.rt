@@ -2,13 +2,15 @@
 // n: narrow. i: sample_index, and w: how it came (0 Free, 1 Raised, 2 Cut). t: total_cmp (0 Less, 1 Equal, 2 Greater). s: smooth5. p: sine_ease. d: delerp.
 #![tactic(auto)]
 
-ghost use Rattle.std.specs.Prelude.{◌≤◌};
+ghost use Rattle.std.specs.Prelude.{◌<◌, ◌≤◌};
 
 use std::io;
 use std::io::{BufReader, BufWriter, Read, Write};
 
 // The value of a hexadecimal digit, 0 of any other byte. Not by `to_digit`, which takes lower-case letters too.
-fn digit(b: u8) -> u64 {
+fn digit(b: u8) -> u64
+    ensures { result < 16 }
+{
     match b {
         b'0'..=b'9' => u64::from(b - b'0'),
         b'A'..=b'F' => u64::from(b - b'A') + 10,
@@ -57,6 +59,17 @@ fn result(kind: u8, a: u64, b: u64, c: u64) -> u64 {
     ))
 }
 
+// The pattern's 16 digits, upper-case, and a line feed. (With `write!` the program takes a quarter more time.)
+fn text(pattern: u64) -> [u8; 17] {
+    let mut out = [b'\n'; 17];
+    let mut rest = pattern;
+    for i in (0..16).rev() {
+        out[i] = b"0123456789ABCDEF"[(rest % 16) as usize];
+        rest /= 16;
+    }
+    out
+}
+
 // Answers a line with the result's pattern; false at the end of the input.
 fn step<R: Read, W: Write>(from: &mut R, out: &mut W) -> io::Result<bool> {
     let mut line = [0u8; 53];
@@ -64,7 +77,7 @@ fn step<R: Read, W: Write>(from: &mut R, out: &mut W) -> io::Result<bool> {
         return Ok(false);
     }
     let pattern = result(line[0], word(&line, 2), word(&line, 19), word(&line, 36));
-    write!(out, "{pattern:016X}\n")?;
+    out.write_all(&text(pattern))?;
     Ok(true)
 }
 

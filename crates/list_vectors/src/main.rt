@@ -62,12 +62,7 @@ struct Run<T> {
 }
 
 // The digest of so many rounds.
-fn digest_of<T: Copy, F: Fn(Run<T>, u64) -> Run<T>>(
-    held: T,
-    seed: u32,
-    rounds: u64,
-    round: F,
-) -> u64
+fn digest_of<T: Copy, F: Fn(&mut Run<T>, u64)>(held: T, seed: u32, rounds: u64, round: F) -> u64
     requires { F.IsAlwaysCallable round }
 {
     let mut run = Run {
@@ -76,7 +71,7 @@ fn digest_of<T: Copy, F: Fn(Run<T>, u64) -> Run<T>>(
         digest: 0,
     };
     for k in 0..rounds {
-        run = round(run, k);
+        round(&mut run, k);
     }
     run.digest
 }
@@ -89,24 +84,19 @@ fn pushes(r: u64, k: u64) -> bool {
     r % 8 < often
 }
 
-fn heap_round(run: Run<Ready>, k: u64) -> Run<Ready> {
-    let seed = random(run.seed);
-    let r = u64::from(seed);
-    let mut heap = run.held;
-    let mut digest = run.digest;
+fn heap_round(run: &mut Run<Ready>, k: u64) {
+    run.seed = random(run.seed);
+    let r = u64::from(run.seed);
+    let heap = run.held;
     if pushes(r, k) {
-        heap = heap.push(event_of(r / 8 % 64, k % 65536 * 2654435761 % 4294967296));
+        run.held = heap.push(event_of(r / 8 % 64, k % 65536 * 2654435761 % 4294967296));
     } else {
         if heap.len != 0 {
-            digest = seen(digest, heap.peek());
+            run.digest = seen(run.digest, heap.peek());
         }
-        heap = heap.pop();
+        run.held = heap.pop();
     }
-    Run {
-        held: heap,
-        seed,
-        digest: mixed(digest, heap.len as u64),
-    }
+    run.digest = mixed(run.digest, run.held.len as u64);
 }
 
 fn heap_digest(rounds: u64) -> u64 {
@@ -135,21 +125,17 @@ fn swap_remove(mut index: ActiveMap, i: usize, leaves: bool) -> ActiveMap {
 }
 
 // A number that is missing is appended, one that is there leaves if the round says so.
-fn index_round(run: Run<ActiveMap>, k: u64) -> Run<ActiveMap> {
-    let seed = random(run.seed);
-    let r = u64::from(seed);
+fn index_round(run: &mut Run<ActiveMap>, k: u64) {
+    run.seed = random(run.seed);
+    let r = u64::from(run.seed);
     let id = EventId(r % 320);
     let found = run.held.find(id);
-    let index = match found {
+    run.held = match found {
         Some(i) => swap_remove(run.held, i, r / 512 % 4 < k / 1024 % 4),
         None => append(run.held, id),
     };
     let digest = mixed(run.digest, found.map_or(999, |i| i as u64));
-    Run {
-        held: index,
-        seed,
-        digest: mixed(digest, index.len as u64),
-    }
+    run.digest = mixed(digest, run.held.len as u64);
 }
 
 fn index_digest(rounds: u64) -> u64 {
@@ -183,32 +169,25 @@ fn looked_up(digest: u64, found: Option<Edit>) -> u64 {
 }
 
 // An edit is stored or replaced, taken out, or looked up; at times the map is full. Every 512 rounds all edits are read.
-fn edit_round(run: Run<EditMap>, k: u64) -> Run<EditMap> {
-    let seed = random(run.seed);
-    let r = u64::from(seed);
+fn edit_round(run: &mut Run<EditMap>, k: u64) {
+    run.seed = random(run.seed);
+    let r = u64::from(run.seed);
     let id = EventId(r % 400);
     let what = r / 512 % 8;
-    let mut edits = run.held;
-    let mut digest = run.digest;
     if what < 4 {
         let edit = Edit {
             end_time: std::num::nearest_u64_to_f64(r / 512),
             fade_out: 0.5,
         };
-        edits = edits.insert(id, edit);
+        run.held = run.held.insert(id, edit);
     } else if what < 4 + k / 1024 % 3 {
-        edits = edits.remove(id);
+        run.held = run.held.remove(id);
     } else {
-        digest = looked_up(digest, edits.find(id));
+        run.digest = looked_up(run.digest, run.held.find(id));
     }
-    digest = mixed(digest, edits.len as u64);
+    run.digest = mixed(run.digest, run.held.len as u64);
     if k % 512 == 0 {
-        digest = all_edits(digest, edits);
-    }
-    Run {
-        held: edits,
-        seed,
-        digest,
+        run.digest = all_edits(run.digest, run.held);
     }
 }
 

@@ -79,8 +79,11 @@ impl EditMap {
     pub fn find(self, id: EventId) -> Option<Edit>
         ensures { result ≡ found_edit self id }
     {
-        let i = self.place(id)?;
-        Some(self.items[i].edit)
+        // (Not by `?`: must-fail/find_invents plants an edit in the second arm.)
+        match self.place(id) {
+            Some(i) => Some(self.items[i].edit),
+            None => None,
+        }
     }
 
     // Replaces the edit of the number in its place, or appends it. A full map without the number stays as it is.

@@ -14,8 +14,9 @@ fn put_word(n: u64, width: usize, out: &mut [u8], at: usize)
     ensures { out.new ≡ sets out.old at (little_endian width n) }
 {
     let mut rest = n;
-    for to in at..at + width {
-        out[to] = (rest % 256) as u8;
+    // By how many are put, and not by the places: a width that is known unrolls.
+    for i in 0..width {
+        out[at + i] = (rest % 256) as u8;
         rest /= 256;
     }
 }

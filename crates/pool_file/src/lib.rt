@@ -3,7 +3,7 @@
 // specs/Pools.antt.
 #![tactic(auto)]
 
-ghost use Rattle.std.specs.Prelude.{◌≡◌, ◌-◌, ◌≤◌, length, take, replicate, IfOk, IfSome};
+ghost use Rattle.std.specs.Prelude.{◌≡◌, ◌-◌, ◌≤◌, length, take, replicate, true, IfOk, IfSome};
 ghost use Rattle.std.proofs.lemmas.List.Edits.{sets};
 ghost use Rattle.floats.specs.Arithmetic.{zeroᶠ};
 ghost use Rattle.recording.specs.Samples.{samples_from};
@@ -206,7 +206,8 @@ fn fill<R: Read>(
     start: Filling,
 ) -> Result<Filling, Fault>
     requires { start.count ≤ length pool.old }
-    ensures { Fills pool.old start.count pool.new result }
+    ensures samples { Fills pool.old start.count pool.new result }
+    ensures whole { IfOk result (λ s. s.whole ≡ true) }
 {
     let mut s = start;
     for _ in 0..u64::MAX {

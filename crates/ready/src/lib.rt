@@ -2,10 +2,7 @@
 // `Event::precedes` is the only comparison. A count above 256 is corrupt: push and pop then change nothing.
 #![tactic(auto)]
 
-ghost use Rattle.std.specs.Prelude.{◌≡◌, ◌<◌};
-ghost use Rattle.event.specs.Events.{earlier};
-ghost use Rattle.event.specs.Blank.{blank};
-ghost use Rattle.ready.specs.Sift.{rise as risen};
+ghost use Rattle.std.specs.Prelude.{◌≡◌};
 ghost use Rattle.ready.specs.Waiting.{emptied, peeked, pushed, popped, risen_by};
 
 use event::{Event, EventId, Fade, Source, Unit};
@@ -16,24 +13,7 @@ pub struct Ready {
     pub len: usize,
 }
 
-// The event goes up from the free place `from`, past every one that it precedes.
-fn rise(items: &mut [Event; 256], from: usize, event: Event)
-    requires { from < 256 }
-    ensures { items.new ≡ risen earlier blank from items.old from event }
-{
-    let mut i = from;
-    while 0 < i {
-        let p = (i - 1) / 2;
-        let parent = items[p];
-        if !event.precedes(parent) {
-            break;
-        }
-        items[i] = parent;
-        i = p;
-    }
-    items[i] = event;
-}
-
+// `push` and the end of `pop` have the walk up once each: a function for both, whether it takes the heap by value or lent, makes the compiler clear and copy the 18 KB once or twice more a call.
 impl Ready {
     // No event waits.
     pub fn new() -> Ready
@@ -70,15 +50,27 @@ impl Ready {
     pub fn push(mut self, event: Event) -> Ready
         ensures { result ≡ pushed self event }
     {
-        if self.len < 256 {
-            rise(&mut self.items, self.len, event);
-            self.len += 1;
+        let n = self.len;
+        if 256 <= n {
+            return self;
         }
+        let mut i = n;
+        while 0 < i {
+            let p = (i - 1) / 2;
+            let parent = self.items[p];
+            if !event.precedes(parent) {
+                break;
+            }
+            self.items[i] = parent;
+            i = p;
+        }
+        self.items[i] = event;
+        self.len = n + 1;
         self
     }
 
     // How many levels an event would rise if it were pushed: one for each that it goes past. None in a full heap.
-    // It goes the way of `rise` and moves nothing, so that the heap is read only: with `rise` it would be copied.
+    // It goes the way of `push` and moves nothing, so that the heap is read only.
     pub fn rise(self, event: Event) -> usize
         ensures { result ≡ risen_by self event }
     {
@@ -124,7 +116,16 @@ impl Ready {
             self.items[i] = self.items[c];
             i = c;
         }
-        rise(&mut self.items, i, last);
+        while 0 < i {
+            let p = (i - 1) / 2;
+            let parent = self.items[p];
+            if !last.precedes(parent) {
+                break;
+            }
+            self.items[i] = parent;
+            i = p;
+        }
+        self.items[i] = last;
         self.len = m;
         self
     }

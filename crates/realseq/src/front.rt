@@ -40,7 +40,8 @@ impl SequencerBackend {
         ensures { refusal_number result ≡ push_refused self start_time end_time lasts fade_in fade_out source gain }
     {
         let s = self.sequencer;
-        let n = held(s.ready_len, s.active_len, s.past_len) + self.messages.tally(Kind::Push);
+        let n = held(s.ready_len, s.active_len, s.past_len)
+            + self.messages.tally(Kind::Push.number());
         if let Some(refusal) = push_refusal(
             start_time, end_time, lasts, fade_in, fade_out, source, gain, n, s.next,
         ) {
@@ -172,7 +173,7 @@ impl SequencerBackend {
             return Some(Refusal::Engine(refusal));
         }
         let stored = self.sequencer.edit_map.len;
-        if 256 <= stored || 256 <= stored + self.messages.tally(Kind::Edit) {
+        if 256 <= stored || 256 <= stored + self.messages.tally(Kind::Edit.number()) {
             return Some(Refusal::Engine(refusals::Refusal::NoRoom));
         }
         if 64 <= self.messages.count {

@@ -12,6 +12,19 @@ pub enum Kind {
     Edit,
 }
 
+impl Kind {
+    // 0: a reset, 1: a push, 2: an edit.
+    pub fn number(self) -> u8
+        ensures { result ≡ kind_number self }
+    {
+        match self {
+            Kind::Reset => 0,
+            Kind::Push => 1,
+            Kind::Edit => 2,
+        }
+    }
+}
+
 #[derive(Clone, Copy)]
 pub enum Message {
     Reset,
@@ -63,10 +76,10 @@ impl Message {
     }
 
     // 1 where the message is of the kind, else 0.
-    fn counts(self, kind: Kind) -> usize
-        ensures { result ≡ counted self (kind_number kind) }
+    fn counts(self, kind: u8) -> usize
+        ensures { result ≡ counted self kind }
     {
-        if self.kind() == kind { 1 } else { 0 }
+        if self.kind().number() == kind { 1 } else { 0 }
     }
 }
 
@@ -85,9 +98,9 @@ impl Messages {
         }
     }
 
-    // How many queued messages are of the kind.
-    pub fn tally(self, kind: Kind) -> usize
-        ensures { result ≡ tallied self (kind_number kind) }
+    // How many queued messages are of the kind of that number (`Kind::number`): 0 resets, 1 pushes, 2 edits; of any other number none are.
+    pub fn tally(self, kind: u8) -> usize
+        ensures { result ≡ tallied self kind }
     {
         let first = self.first % 64;
         let mut total = 0;

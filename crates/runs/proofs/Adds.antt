@@ -1,15 +1,16 @@
 -- What is done to each sample along others, in the words of the contracts. Assumes nothing.
 use mathlib.Core.Path.{◌≡◌, refl, ap, ◌∙◌}
 use mathlib.Core.List.{List, [], ◌∷◌, ◌++◌, map}
-use Prim.Native.Nat.{ℕ, zero, suc, ◌-◌, ◌≤◌}
+use Prim.Native.Nat.{ℕ, zero, suc, ◌+◌, ◌-◌, ◌≤◌}
 use native.Mathlib.Nat.{sub-zero}
+use native.Mathlib.Numerals.{add-one}
 use native.Mathlib.Omega.{arith}
-use lib.Ieee.{Float}
-use lib.ListN.{length, take, drop, replicate, length-append, length-drop}
-use lib.Seq.{length-take-le}
+use lib.Ieee.{Float, nan}
+use lib.ListN.{length, get_or, take, drop, replicate, length-append, length-drop}
+use lib.Seq.{drop-cons, length-take-le}
 use Rattle.event.specs.Sources.{made}
 use Rattle.floats.specs.Arithmetic.{◌+ˢ◌, ◌×ˢ◌}
-use Rattle.runs.specs.Walk.{zipped}
+use Rattle.runs.specs.Walk.{walk, zipped}
 use Rattle.runs.specs.Samples.{added}
 use Rattle.runs.proofs.Walks.{then-rest}
 
@@ -66,3 +67,12 @@ module _ {A B : Type 0} (h : A → B → A) (z : B) where
       let y : length ys ≡ n = length-zipped xs (take n l) ∙ length-take-le n l i in
       let k : length (ys ++ drop n l) ≡ length l = simp (length-append, y, length-drop) (omega arith) in
       rw k (then-rest (λ (r : List A). map (λ a. h a z) r) n ys l i y) ∙ zipped_then n xs l i j
+
+-- a walk along another list, from place `at` on, at a gain
+pub walk_from : (g : Float) (xs : List Float) (at : ℕ) (l : List Float) → at + length l ≤ length xs
+    → walk (λ j a. a +ˢ (get_or xs j nan ×ˢ g)) (λ j. j + 1) at l ≡ added g (take (length l) (drop at xs)) l
+unfolding walk zipped
+walk_from g xs at [] b = refl
+walk_from g xs at (a ∷ l) b =
+    let e : drop at xs ≡ get_or xs at nan ∷ drop (suc at) xs = drop-cons xs at nan (omega arith) in
+    rw (e, add-one) (ap (λ (r : List Float). (a +ˢ (get_or xs at nan ×ˢ g)) ∷ r) (walk_from g xs (suc at) l (omega arith)))

@@ -1,4 +1,4 @@
--- A fade in two passes is the ledger's in one, and so is one along a ramp. Assumes nothing.
+-- A fade in two passes is the ledger's in one, and so are one along a ramp and a walk. Assumes nothing.
 use mathlib.Core.Path.{◌≡◌, refl, ap}
 use mathlib.Core.Bool.{Bool}
 use mathlib.Core.List.{List, [], ◌∷◌, map}
@@ -10,7 +10,7 @@ use Rattle.event.specs.Fades.{curve}
 use Rattle.event.specs.Sources.{made}
 use Rattle.floats.specs.Arithmetic.{◌+ˢ◌, ◌×ˢ◌}
 use Rattle.ledger.specs.BlockSamples.{faded_all}
-use Rattle.runs.specs.Walk.{zipped}
+use Rattle.runs.specs.Walk.{walk, zipped}
 use Rattle.runs.specs.Samples.{chain, facing, phases_of, shaped}
 
 pub map_made : {A S : Type 0} (f : A → A) (v : S → A) (next : S → S) (s : S) (k : ℕ) → map f (made v next s k) ≡ made (λ x. f (v x)) next s k
@@ -28,3 +28,8 @@ module _ (c : Fade) (rising : Bool) where
   unfolding faded_all made zipped
   on_ramp phase step [] = refl
   on_ramp phase step (x ∷ l) = ap (λ (r : List Float). (x ×ˢ curve c (facing rising phase)) ∷ r) (on_ramp (phase +ˢ step) step l)
+
+  pub faded_all_walk : (phase step : Float) (l : List Float) → walk (λ y a. a ×ˢ curve c (facing rising y)) (λ y. y +ˢ step) phase l ≡ faded_all c rising phase step l
+  unfolding faded_all walk
+  faded_all_walk phase step [] = refl
+  faded_all_walk phase step (x ∷ l) = ap (λ (r : List Float). (x ×ˢ curve c (facing rising phase)) ∷ r) (faded_all_walk (phase +ˢ step) step l)

@@ -9,7 +9,18 @@ use native.Mathlib.Omega.{arith}
 use lib.ListN.{length, get_or, take, drop, replicate, drop_of_length-le, length-drop}
 use lib.Seq.{take-length, drop-length, take_all, drop-cons, take_at, drop_at}
 use Rattle.event.specs.Sources.{made, steps}
-use Rattle.runs.specs.Walk.{walk, zipped, front}
+use Rattle.runs.specs.Walk.{walk, ends, zipped, front}
+
+-- ---- a walk that looks at no element makes as many as there are
+pub walk_made : {A S : Type 0} (v : S → A) (next : S → S) (s : S) (l : List A) → walk (λ x a. v x) next s l ≡ made v next s (length l)
+unfolding walk made
+walk_made v next s [] = refl
+walk_made v next s (a ∷ l) = ap (λ (r : List _). v s ∷ r) (walk_made v next (next s) l)
+
+pub ends-steps : {A S : Type 0} (next : S → S) (s : S) (l : List A) → ends next s l ≡ steps next s (length l)
+unfolding ends steps
+ends-steps next s [] = refl
+ends-steps next s (a ∷ l) = ends-steps next (next s) l
 
 -- ---- a walk along what its states make
 pub walk_on : {A S : Type 0} (h : A → S → A) (next : S → S) (s : S) (l : List A) → walk (λ y a. h a y) next s l ≡ zipped h (made (λ y. y) next s (length l)) l

@@ -125,7 +125,15 @@ pub fn fill_run(s: &mut [f32], unit: Unit, pool: &[f32]) -> Unit
 pub fn add_source(s: &mut [f32], unit: Unit, pool: &[f32], gain: f32) -> Unit
     ensures { (s.new ≡ added gain (next_samples pool.now unit (length s.old)) s.old) × (result ≡ advanced_by unit (length s.old)) }
 {
-    each_of_source(s, unit, pool, move |a, y| a + y * gain)
+    match unit.source {
+        // A level at the gain is one number: the product is taken once.
+        Source::Held(level) => {
+            let x = level * gain;
+            each(s, move |a| a + x);
+            unit
+        }
+        _ => each_of_source(s, unit, pool, move |a, y| a + y * gain),
+    }
 }
 
 // Every sample at a gain.

@@ -5,24 +5,22 @@ use Rattle.sequencer.specs.declared.Answer.{Answer}
 use Rattle.listing.specs.Ascii.{ascii}
 use Rattle.listing.specs.Text.{decimal}
 use Rattle.chart.specs.Scale.{x_of, breadth_of, lane_of, lanes_end, wave_of, height_of}
-use Rattle.standing.specs.declared.Standing.{Standing}
-use Rattle.standing.specs.declared.Standing.TheVariants.{Waiting, Sounding, Finished, LetGo}
-use Rattle.tape_words.specs.Words.{is_sounding, by_place, time_text, peak_text, refusal_text, sum_text, call_text, call_at, answer_text}
+use Rattle.tape_words.specs.Words.{by_place, time_text, peak_text, refusal_text, sum_text, call_text, call_at, answer_text}
 
 -- a standing's class in the style
-unfoldable pub class_text : (place : Standing) → List ℕ
+unfoldable pub class_text : (place : ℕ) → List ℕ
 class_text place = by_place place (ascii "w") (ascii "s") (ascii "f") (ascii "g")
 
 -- a standing in words
-unfoldable pub name_text : (place : Standing) → List ℕ
+unfoldable pub name_text : (place : ℕ) → List ℕ
 name_text place = by_place place (ascii "waiting") (ascii "sounding") (ascii "finished") (ascii "let go")
 
 -- how far below the lane's top a standing is drawn
-unfoldable pub inset_of : (place : Standing) → ℕ
+unfoldable pub inset_of : (place : ℕ) → ℕ
 inset_of place = by_place place 8 5 7 9
 
 -- how high it is drawn: each standing has a height of its own, so that it is told in grey too
-unfoldable pub thickness_of : (place : Standing) → ℕ
+unfoldable pub thickness_of : (place : ℕ) → ℕ
 thickness_of place = by_place place 4 10 6 2
 
 -- name="n"
@@ -49,7 +47,7 @@ unfolding bounds
 open_box class x y width height = ascii "<rect class=\"" ∷ class ∷ ascii "\"" ∷ (bounds x y width height ++ (ascii ">" ∷ []))
 
 -- a standing's box in a lane that begins at top, up to its last attribute
-unfoldable pub standing : (place : Standing) → (x top width : ℕ) → List (List ℕ)
+unfoldable pub standing : (place x top width : ℕ) → List (List ℕ)
 unfolding class_text bounds inset_of thickness_of
 standing place x top width = ascii "<rect class=\"" ∷ class_text place ∷ ascii "\"" ∷ bounds x (top + inset_of place) width (thickness_of place)
 
@@ -70,19 +68,19 @@ axis_mark time total step top height =
     ∷ (open_text (ascii "t") (x_of time total + 2) (top - 3) ++ (axis_time time step ++ (ascii "</text>\n" ∷ []))))
 
 -- a clip's standing from a time to another; where no time passes nothing is drawn
-unfoldable pub segment : (total first clip : ℕ) → (place : Standing) → (from until : ℕ) → List (List ℕ)
+unfoldable pub segment : (total first clip place from until : ℕ) → List (List ℕ)
 unfolding standing name_text time_text
 segment total first clip place from until =
     cond (eqb from until) [] (standing place (x_of from total) (lane_of (clip - first)) (breadth_of from until total) ++ (ascii "><title>clip " ∷ decimal clip ∷ ascii ": "
     ∷ name_text place ∷ ascii " from " ∷ (time_text from ++ (ascii " to " ∷ (time_text until ++ (ascii "</title></rect>\n" ∷ []))))))
 
 -- a lane's line, its number, and a mark where the clip was laid, which says where the push laid it
-unfoldable pub lane : (total first clip : ℕ) → (place : Standing) → (time : ℕ) → List (List ℕ)
+unfoldable pub lane : (total first clip place time : ℕ) → List (List ℕ)
 unfolding open_path open_text time_text
 lane total first clip place time =
     open_path (ascii "l") 170 (lane_of (clip - first) + 10) ++ (ascii "h1400\"/>" ∷ (open_text (ascii "n") 162 (lane_of (clip - first) + 14)
     ++ (decimal clip ∷ ascii "</text>" ∷ (open_path (ascii "p") (x_of time total - 6) (lane_of (clip - first) + 5)
-    ++ (ascii "l6 5l-6 5z\"><title>clip " ∷ decimal clip ∷ ascii " laid at " ∷ (time_text time ++ (cond (is_sounding place) (ascii ", straight to sounding") (ascii ", waits")
+    ++ (ascii "l6 5l-6 5z\"><title>clip " ∷ decimal clip ∷ ascii " laid at " ∷ (time_text time ++ (cond (eqb place 1) (ascii ", straight to sounding") (ascii ", waits")
     ∷ ascii "</title></path>\n" ∷ [])))))))
 
 -- a mark of the strip, in one of eight rows, opened
@@ -137,7 +135,7 @@ wave lanes channel most =
     ∷ (open_path (ascii "v") 170 (wave_of lanes channel + 40) ++ (ascii "h1401" ∷ [])))))))))))
 
 -- a standing of the key
-unfoldable pub swatch : (place : Standing) → (x : ℕ) → List (List ℕ)
+unfoldable pub swatch : (place x : ℕ) → List (List ℕ)
 unfolding standing open_text name_text
 swatch place x = standing place x 40 40 ++ (ascii "/>" ∷ (open_text (ascii "k") (x + 46) 51 ++ (name_text place ∷ ascii "</text>\n" ∷ [])))
 

@@ -8,26 +8,25 @@ ghost use Rattle.tape_sheet.specs.Elements.{name_text, attribute, open_text, ope
 
 use listing::pieces::{put_bytes, put_decimal};
 use sequencer::{Answer, Counts};
-use standing::Standing;
 use tape_words::{
     is_sounding, put_answer, put_by_place, put_call, put_call_at, put_either, put_numbered,
     put_peak, put_refusal, put_sum, put_time, put_timed,
 };
 
-// One of four numbers, by where a clip stands.
-fn by_place(place: Standing, waiting: u64, sounding: u64, finished: u64, let_go: u64) -> u64
+// One of four numbers, by where a clip stands: 0 waiting, 1 sounding, 2 finished, 3 let go.
+fn by_place(place: u64, waiting: u64, sounding: u64, finished: u64, let_go: u64) -> u64
     ensures { result ≡ by_place place waiting sounding finished let_go }
 {
     match place {
-        Standing::Waiting => waiting,
-        Standing::Sounding => sounding,
-        Standing::Finished => finished,
-        Standing::LetGo => let_go,
+        0 => waiting,
+        1 => sounding,
+        2 => finished,
+        _ => let_go,
     }
 }
 
 // A standing in words.
-fn put_name(place: Standing, out: &mut [u8], at: usize) -> usize
+fn put_name(place: u64, out: &mut [u8], at: usize) -> usize
     ensures { text out.new result ≡ add (name_text place) (text out.old at) }
 {
     put_by_place(
@@ -103,7 +102,7 @@ fn put_open_box(
 }
 
 // A standing's box below `top`, up to its last attribute: each standing has a class in the style, and a height of its own, so that it is told in grey too.
-fn put_standing(place: Standing, x: u64, top: u64, width: u64, out: &mut [u8], at: usize) -> usize
+fn put_standing(place: u64, x: u64, top: u64, width: u64, out: &mut [u8], at: usize) -> usize
     requires { top ≤ 35_184_372_088_832 }
     ensures { text out.new result ≡ add_all (standing place x top width) (text out.old at) }
 {
@@ -165,7 +164,7 @@ pub fn put_segment(
     total: u64,
     first: u64,
     clip: u64,
-    place: Standing,
+    place: u64,
     from: u64,
     until: u64,
     out: &mut [u8],
@@ -194,7 +193,7 @@ pub fn put_lane(
     total: u64,
     first: u64,
     clip: u64,
-    place: Standing,
+    place: u64,
     time: u64,
     out: &mut [u8],
     at: usize,
@@ -365,7 +364,7 @@ pub fn put_wave(lanes: u64, channel: u32, most: u32, out: &mut [u8], at: usize) 
 }
 
 // A standing of the key.
-pub fn put_swatch(place: Standing, x: u32, out: &mut [u8], at: usize) -> usize
+pub fn put_swatch(place: u64, x: u32, out: &mut [u8], at: usize) -> usize
     ensures { text out.new result ≡ add_all (swatch place x) (text out.old at) }
 {
     let to = put_standing(place, x as u64, 40, 40, out, at);

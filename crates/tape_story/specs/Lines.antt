@@ -9,24 +9,22 @@ use Rattle.listing.specs.Ascii.{ascii}
 use Rattle.listing.specs.Text.{decimal}
 use Rattle.chart.specs.Scale.{thousandths_of}
 use Rattle.tape.specs.Tape.{push_kind}
-use Rattle.standing.specs.declared.Standing.{Standing}
-use Rattle.standing.specs.declared.Standing.TheVariants.{Waiting, Sounding, Finished, LetGo}
-use Rattle.tape_words.specs.Words.{same_place, is_sounding, by_place, thousandths_text, time_text, peak_text, refusal_text, sum_text, call_text, answer_text}
+use Rattle.tape_words.specs.Words.{by_place, thousandths_text, time_text, peak_text, refusal_text, sum_text, call_text, answer_text}
 use Rattle.tape_story.specs.declared.Samples.{Samples}
 use Rattle.tape_story.specs.Asides.{refused_text, samples_text}
 
 -- what became of a clip that moved, by where it stands now
-unfoldable pub becomes_text : (place : Standing) → List ℕ
+unfoldable pub becomes_text : (place : ℕ) → List ℕ
 becomes_text place = by_place place (ascii " waits again") (ascii " starts") (ascii " finishes") (ascii " is let go")
 
 -- a clip that stands elsewhere than it did; one that stands where it did is not told
-unfoldable pub move_text : (clip : ℕ) → (was place : Standing) → List (List ℕ)
+unfoldable pub move_text : (clip was place : ℕ) → List (List ℕ)
 unfolding becomes_text
-move_text clip was place = cond (same_place place was) [] (ascii "; clip " ∷ decimal clip ∷ becomes_text place ∷ [])
+move_text clip was place = cond (eqb place was) [] (ascii "; clip " ∷ decimal clip ∷ becomes_text place ∷ [])
 
 -- where a push lays its clip
-unfoldable pub laid_text : (clip : ℕ) → (place : Standing) → List (List ℕ)
-laid_text clip place = ascii ": clip " ∷ decimal clip ∷ cond (is_sounding place) (ascii " goes straight to sounding") (ascii " waits") ∷ []
+unfoldable pub laid_text : (clip place : ℕ) → List (List ℕ)
+laid_text clip place = ascii ": clip " ∷ decimal clip ∷ cond (eqb place 1) (ascii " goes straight to sounding") (ascii " waits") ∷ []
 
 -- the replay mode
 unfoldable pub mode_text : ReplayMode → List ℕ
@@ -49,7 +47,7 @@ unfolding thousandths_text
 rate_text rate = ascii " " ∷ thousandths_text (thousandths_of rate)
 
 -- what an accepted call says, by its record's kind, beside the clips that moved; s is the engine behind it
-unfoldable pub outcome_text : Sequencer → (kind : ℕ) → Answer → (clip : ℕ) → (place : Standing) → List (List ℕ)
+unfoldable pub outcome_text : Sequencer → (kind : ℕ) → Answer → (clip place : ℕ) → List (List ℕ)
 unfolding laid_text created_text edited_text rate_text
 outcome_text s kind told clip place =
     cond (push_kind kind) (laid_text clip place)

@@ -9,14 +9,13 @@ ghost use Rattle.tape_story.specs.Lines.{move_text, laid_text, mode_text, create
 use event::ReplayMode;
 use listing::pieces::put_bytes;
 use sequencer::{Answer, Counts, Sequencer};
-use standing::Standing;
 use tape_words::{
     is_sounding, put_answer, put_by_place, put_call, put_either, put_numbered, put_peak,
     put_refusal, put_sum, put_thousandths, put_time,
 };
 
 // What became of a clip that stands elsewhere than it did; one that stands where it did is not told.
-pub fn put_move(clip: u64, was: Standing, place: Standing, out: &mut [u8], at: usize) -> usize
+pub fn put_move(clip: u64, was: u64, place: u64, out: &mut [u8], at: usize) -> usize
     ensures { text out.new result ≡ add_all (move_text clip was place) (text out.old at) }
 {
     if place == was {
@@ -35,7 +34,7 @@ pub fn put_move(clip: u64, was: Standing, place: Standing, out: &mut [u8], at: u
 }
 
 // Where a push lays its clip.
-fn put_laid(clip: u64, place: Standing, out: &mut [u8], at: usize) -> usize
+fn put_laid(clip: u64, place: u64, out: &mut [u8], at: usize) -> usize
     ensures { text out.new result ≡ add_all (laid_text clip place) (text out.old at) }
 {
     let to = put_numbered(b": clip ", clip, out, at);
@@ -89,7 +88,7 @@ pub fn put_outcome(
     kind: u8,
     told: Answer,
     clip: u64,
-    place: Standing,
+    place: u64,
     out: &mut [u8],
     at: usize,
 ) -> usize

@@ -5,13 +5,20 @@ use Rattle.sequencer.specs.declared.readers.Counts.{Counts}
 use Rattle.sequencer.specs.declared.Answer.{Answer}
 use Rattle.sequencer.specs.declared.Answer.TheVariants.{Done}
 use Rattle.standing.specs.declared.Standing.{Standing}
-use Rattle.standing.specs.declared.Standing.TheVariants.{Waiting}
+use Rattle.standing.specs.declared.Standing.TheVariants.{Waiting, Sounding, Finished, LetGo}
 use Rattle.standing.specs.Standings.{standing_in, edit_answer}
 use Rattle.standing.specs.Theorem.{is_let_go}
 use Rattle.tape.specs.declared.reader.Call.{Call}
 use Rattle.tape.specs.declared.reader.Call.TheVariants.{Create, Push, PushRelative, PushDuration, Edit, EditRelative, Tick, Process, Reset, SetSampleRate}
 use Rattle.tape_tracks.specs.declared.Track.{Track}
 use Rattle.tape_tracks.specs.declared.Tracks.{Tracks}
+
+-- 0 waiting, 1 sounding, 2 finished, 3 let go
+unfoldable pub number_of : Standing → ℕ
+number_of Waiting = 0
+number_of Sounding = 1
+number_of Finished = 2
+number_of LetGo = 3
 
 -- no clip
 unfoldable pub no_tracks : Tracks

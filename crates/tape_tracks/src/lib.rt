@@ -3,7 +3,7 @@
 
 ghost use Rattle.std.specs.Prelude.{◌≡◌, take};
 ghost use Rattle.standing.specs.Theorem.{is_let_go};
-ghost use Rattle.tape_tracks.specs.Tracks.{no_tracks, held_with, laid_at, same_counts, one_more, refusal_of, edited_number, edit_answer_of};
+ghost use Rattle.tape_tracks.specs.Tracks.{number_of, no_tracks, held_with, laid_at, same_counts, one_more, refusal_of, edited_number, edit_answer_of};
 
 use sequencer::{Answer, Counts, Sequencer};
 use standing::Standing;
@@ -22,6 +22,19 @@ pub struct Track {
 pub struct Tracks {
     held: [Track; 256],
     count: usize,
+}
+
+// Where a clip stands, as the number by which crates tape_words, tape_story and tape_sheet are told it.
+#[tactic(auto, unfolding(crate::specs::Tracks::number_of))]
+pub fn place_number(place: Standing) -> u64
+    ensures { result ≡ number_of place }
+{
+    match place {
+        Standing::Waiting => 0,
+        Standing::Sounding => 1,
+        Standing::Finished => 2,
+        Standing::LetGo => 3,
+    }
 }
 
 fn is_let_go(place: Standing) -> bool

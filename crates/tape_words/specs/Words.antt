@@ -1,35 +1,16 @@
 -- Words of the pages about a tape, as pieces: times, peaks, refusals, the sum of the counts, calls and what became of an edit. They run.
-use Rattle.std.specs.Prelude.{ℕ, ◌+◌, ◌/◌, ◌%◌, Bool, true, false, cond, List, [], ◌∷◌, ◌++◌, eqb}
+use Rattle.std.specs.Prelude.{ℕ, ◌+◌, ◌/◌, ◌%◌, Bool, cond, List, [], ◌∷◌, ◌++◌, eqb}
 use Rattle.sequencer.specs.declared.readers.Counts.{Counts}
 use Rattle.sequencer.specs.declared.Answer.{Answer}
 use Rattle.sequencer.specs.declared.Answer.TheVariants.{Number, Applied, Past, Stored, Done, Rendered, Refused}
-use Rattle.standing.specs.declared.Standing.{Standing}
-use Rattle.standing.specs.declared.Standing.TheVariants.{Waiting, Sounding, Finished, LetGo}
 use Rattle.listing.specs.Ascii.{ascii}
 use Rattle.listing.specs.Text.{decimal}
 use Rattle.chart.specs.Scale.{scaled_of}
 use Rattle.refusal_texts.specs.Texts.{text_of}
 
--- one of four, by where a clip stands
-abbrev pub by_place : {A : Type 0} → (place : Standing) → (waiting sounding finished let_go : A) → A
-by_place Waiting w s f g = w
-by_place Sounding w s f g = s
-by_place Finished w s f g = f
-by_place LetGo w s f g = g
-
--- whether a clip stands at one place and at another
-abbrev pub same_place : (p q : Standing) → Bool
-same_place Waiting q = by_place q true false false false
-same_place Sounding q = by_place q false true false false
-same_place Finished q = by_place q false false true false
-same_place LetGo q = by_place q false false false true
-
--- whether a clip sounds
-abbrev pub is_sounding : Standing → Bool
-is_sounding Waiting = false
-is_sounding Sounding = true
-is_sounding Finished = false
-is_sounding LetGo = false
+-- one of four, by where a clip stands: 0 waiting, 1 sounding, 2 finished, 3 let go
+abbrev pub by_place : {A : Type 0} → (place : ℕ) → (waiting sounding finished let_go : A) → A
+by_place place w s f g = cond (eqb place 0) w (cond (eqb place 1) s (cond (eqb place 2) f g))
 
 -- a number of thousandths, with three decimals
 unfoldable pub thousandths_text : ℕ → List (List ℕ)

@@ -5,11 +5,10 @@
 ghost use Rattle.std.specs.Prelude.{◌≡◌, cond, [], ◌∷◌, ◌+◌, eqb};
 ghost use Rattle.listing.specs.Pieces.{text, add, add_all};
 ghost use Rattle.listing.specs.Text.{decimal};
-ghost use Rattle.tape_words.specs.Words.{is_sounding, by_place, thousandths_text, time_text, peak_text, refusal_text, sum_text, call_text, call_at, push_text, answer_text};
+ghost use Rattle.tape_words.specs.Words.{by_place, thousandths_text, time_text, peak_text, refusal_text, sum_text, call_text, call_at, push_text, answer_text};
 
 use listing::pieces::{put_bytes, put_decimal};
 use sequencer::{Answer, Counts};
-use standing::Standing;
 
 // One of two texts: the first where `holds` is true.
 pub fn put_either(holds: bool, first: &[u8], second: &[u8], out: &mut [u8], at: usize) -> usize
@@ -21,16 +20,16 @@ pub fn put_either(holds: bool, first: &[u8], second: &[u8], out: &mut [u8], at: 
     put_bytes(second, out, at)
 }
 
-// Whether a clip sounds.
-pub fn is_sounding(place: Standing) -> bool
-    ensures { result ≡ is_sounding place }
+// Whether a clip that stands so sounds.
+pub fn is_sounding(place: u64) -> bool
+    ensures { result ≡ eqb place 1 }
 {
-    matches!(place, Standing::Sounding)
+    place == 1
 }
 
-// One of four texts, by where a clip stands.
+// One of four texts, by where a clip stands: 0 waiting, 1 sounding, 2 finished, 3 let go.
 pub fn put_by_place(
-    place: Standing,
+    place: u64,
     waiting: &[u8],
     sounding: &[u8],
     finished: &[u8],
@@ -41,10 +40,10 @@ pub fn put_by_place(
     ensures { text out.new result ≡ add (by_place place waiting.now sounding.now finished.now let_go.now) (text out.old at) }
 {
     match place {
-        Standing::Waiting => put_bytes(waiting, out, at),
-        Standing::Sounding => put_bytes(sounding, out, at),
-        Standing::Finished => put_bytes(finished, out, at),
-        Standing::LetGo => put_bytes(let_go, out, at),
+        0 => put_bytes(waiting, out, at),
+        1 => put_bytes(sounding, out, at),
+        2 => put_bytes(finished, out, at),
+        _ => put_bytes(let_go, out, at),
     }
 }
 

@@ -15,6 +15,7 @@ use std::io;
 use std::io::{BufWriter, Write};
 use std::os::unix::fs::FileExt;
 use tape::reader::{Call, Read};
+use tape_pages::both;
 use tape_tracks::{Track, Tracks};
 
 fn record<E: Eprint, F: FileExt>(rt: &E, file: &F, at: u64, first: bool) -> Read {
@@ -157,7 +158,11 @@ fn play_record<W: Write>(
     let s = a.sequencer;
     let refusal = tape_tracks::refusal_of(a.refusal);
     let base = base_of(kind, now, t.base);
-    let laid = tape_tracks::laid_at(refusal.is_none() && tape::reader::is_push(kind), s, clip);
+    let laid = tape_tracks::laid_at(
+        both(refusal.is_none(), tape::reader::is_push(kind)),
+        s,
+        clip,
+    );
     if let Some(place) = laid {
         let track = Track {
             clip,

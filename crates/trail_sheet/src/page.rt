@@ -3,7 +3,7 @@ use sequencer::{Answer, Counts};
 use standing::Standing;
 use std::io;
 use std::io::Write;
-use tape_tracks::Track;
+use tape_tracks::{Track, place_number};
 
 // What a page is drawn by: whether this is the time to draw, how long the tape plays, how many clips were laid and from which number on, and how many channels.
 #[derive(Clone, Copy)]
@@ -87,7 +87,7 @@ pub(crate) fn segment<W: Write>(
         page.total,
         page.first,
         track.clip,
-        track.place,
+        place_number(track.place),
         track.since,
         until,
         &mut text,
@@ -106,7 +106,7 @@ pub(crate) fn lay<W: Write>(out: &mut W, page: Page, track: Track) -> io::Result
         page.total,
         page.first,
         track.clip,
-        track.place,
+        place_number(track.place),
         track.since,
         &mut text,
         0,
@@ -213,7 +213,7 @@ pub(crate) fn mark<W: Write>(
 
 fn swatch<W: Write>(out: &mut W, place: Standing, x: u32) -> io::Result<()> {
     let mut text = [0u8; 4096];
-    let n = tape_sheet::put_swatch(place, x, &mut text, 0);
+    let n = tape_sheet::put_swatch(place_number(place), x, &mut text, 0);
     say(out, &text, n)
 }
 

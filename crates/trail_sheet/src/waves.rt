@@ -2,6 +2,7 @@
 use crate::page::say;
 use std::io;
 use std::io::Write;
+use tape_pages::larger;
 
 // The columns of a channel: its peaks stand in a row, one channel's behind the other's.
 const COLUMNS: usize = 1401;
@@ -15,7 +16,7 @@ fn magnitude(samples: &[f32], i: usize) -> u32 {
 
 fn raise(peaks: &mut [u32], i: usize, bits: u32) {
     if i < peaks.len() {
-        peaks[i] = peaks[i].max(bits);
+        peaks[i] = larger(peaks[i], bits);
     }
 }
 
@@ -81,7 +82,7 @@ fn bars<W: Write>(out: &mut W, peaks: &[u32], middle: u64, loud: bool) -> io::Re
 }
 
 fn loudest_of(peaks: &[u32]) -> u32 {
-    peaks.iter().copied().max().unwrap_or(0)
+    peaks.iter().fold(0, |most, bits| larger(most, *bits))
 }
 
 fn wave<W: Write>(out: &mut W, lanes: u64, channel: u32, peaks: &[u32]) -> io::Result<()> {

@@ -8,8 +8,9 @@ use std::io;
 use std::io::{BufWriter, Write};
 use std::os::unix::fs::FileExt;
 use tape::reader::{Call, Read};
+use tape_pages::{both, larger};
 use tape_story::Samples;
-use tape_tracks::{Track, Tracks};
+use tape_tracks::{Track, Tracks, place_number};
 
 // Writes the first n bytes of a text, where it has so many.
 fn say<W: Write>(out: &mut W, text: &[u8], n: usize) -> io::Result<()> {
@@ -23,7 +24,7 @@ fn say<W: Write>(out: &mut W, text: &[u8], n: usize) -> io::Result<()> {
 
 fn tell_move<W: Write>(out: &mut W, clip: u64, was: Standing, place: Standing) -> io::Result<()> {
     let mut text = [0u8; 4096];
-    let n = tape_story::put_move(clip, was, place, &mut text, 0);
+    let n = tape_story::put_move(clip, place_number(was), place_number(place), &mut text, 0);
     say(out, &text, n)
 }
 
@@ -68,7 +69,7 @@ fn quieter(quiet: Option<Quiet>, clock: u64, peak: u32) -> Quiet {
         Some(q) => Quiet {
             calls: q.calls.wrapping_add(1),
             since: q.since,
-            peak: q.peak.max(peak),
+            peak: larger(q.peak, peak),
         },
         None => Quiet {
             calls: 1,
@@ -99,7 +100,7 @@ fn tell_outcome<W: Write>(
     place: Standing,
 ) -> io::Result<()> {
     let mut text = [0u8; 4096];
-    let n = tape_story::put_outcome(s, kind, told, clip, place, &mut text, 0);
+    let n = tape_story::put_outcome(s, kind, told, clip, place_number(place), &mut text, 0);
     say(out, &text, n)
 }
 
@@ -125,7 +126,7 @@ fn tell_sum<W: Write>(out: &mut W, clock: u64, counts: Counts, pushes: u64) -> i
 fn loudest(samples: &[f32], each: usize) -> u32 {
     let mut most = 0;
     for sample in samples.iter().take(each) {
-        most = most.max(float_bits::f32_to_bits(*sample) % 0x8000_0000);
+        most = larger(most, float_bits::f32_to_bits(*sample) % 0x8000_0000);
     }
     most
 }
@@ -178,9 +179,14 @@ fn tell_record<W: Write>(
     let heard = 0 < a.channels;
     let peak = loudest(samples, a.each);
     let still = tape_tracks::is_same(before.counts(), s.counts());
-    let laid = tape_tracks::laid_at(refusal.is_none() && tape::reader::is_push(kind), s, clip);
+    let quiet_now = both(still, heard);
+    let laid = tape_tracks::laid_at(
+        both(refusal.is_none(), tape::reader::is_push(kind)),
+        s,
+        clip,
+    );
     let mut quiet = None;
-    if still && heard {
+    if quiet_now {
         quiet = Some(quieter(t.quiet, clock, peak));
     } else {
         tell_quiet(out, t.quiet)?;
@@ -205,7 +211,7 @@ fn tell_record<W: Write>(
     if !still {
         follow(out, s, tracks, clock)?;
     }
-    if !(still && heard) {
+    if !quiet_now {
         let samples = Samples {
             each: a.each as u64,
             peak,

@@ -1,25 +1,25 @@
 use mathlib.Core.Path.{◌≡◌, ap, ◌∙◌}
+use mathlib.Core.Bool.{Bool, true, false, cond}
 use Prim.Native.Nat.{ℕ, ◌+◌, ◌≤◌}
 use native.Mathlib.Omega.{arith}
-use Rattle.standing.specs.declared.Standing.{Standing}
-use Rattle.standing.specs.declared.Standing.TheVariants.{Waiting, Sounding, Finished, LetGo}
-use Rattle.tape_words.specs.Words.{by_place}
+use lib.Dec.{eqb}
 use Rattle.tape_words.specs.Joining.{one, further, named}
 use Rattle.tape_sheet.specs.Elements.{bounds, class_text, inset_of, thickness_of, standing}
 use borrow.Author.Rules.{rules}
 use Rattle.tape_sheet.proofs.put_standing.Goals as goal
 
 -- no inset is above 9
-at_most : (place : Standing) → by_place place 8 5 7 9 ≤ 9
-at_most Waiting = omega arith
-at_most Sounding = omega arith
-at_most Finished = omega arith
-at_most LetGo = omega arith
+at_most : (a b c : Bool) → cond a 8 (cond b 5 (cond c 7 9)) ≤ 9
+at_most true b c = omega arith
+at_most false true c = omega arith
+at_most false false true = omega arith
+at_most false false false = omega arith
 
 pub overflow_add-top : goal.overflow_add-top
 overflow_add-top c =
+    let place = c.args.place in
     let h = c.requires in
-    let m : c.by_place-inset.result ≤ 9 = rw c.by_place-inset.ensures (at_most c.args.place) in
+    let m : c.by_place-inset.result ≤ 9 = rw c.by_place-inset.ensures (at_most (eqb place 0) (eqb place 1) (eqb place 2)) in
     search rules
 
 pub returns : goal.returns

@@ -58,11 +58,11 @@ returns-then-stored-ge256 c =
     let none = taken_is _ _ c.edit_limits.ensures c.in_default.is in
     elim c.then-stored-ge256.branch [
       | then-stored-ge256-via-then-stored-ge256 w ↦ stored _ _ _ _ refl none w.if-stored-ge256.true
-      | then-stored-ge256-via-else-stored-ge256+then-stored-tally-ge256 w ↦ stores _ _ _ _ refl none _ w.tally.ensures w.if-stored-tally-ge256.true
+      | then-stored-ge256-via-else-stored-ge256+then-stored-tally-ge256 w ↦ stores _ _ _ _ refl none _ (w.tally.ensures ∙ ap (tallied c.args.self.messages) w.number.ensures) w.if-stored-tally-ge256.true
     ]
 
 pub returns-then-self-ge64 : goal.returns-then-self-ge64
-returns-then-self-ge64 c = full _ _ _ _ refl (taken_is _ _ c.edit_limits.ensures c.in_default.is) _ c.tally.ensures c.if-stored-tally-ge256.false c.if-self-ge64.true
+returns-then-self-ge64 c = full _ _ _ _ refl (taken_is _ _ c.edit_limits.ensures c.in_default.is) _ (c.tally.ensures ∙ ap (tallied c.args.self.messages) c.number.ensures) c.if-stored-tally-ge256.false c.if-self-ge64.true
 
 pub returns : goal.returns
-returns c = fine _ _ _ _ refl (taken_is _ _ c.edit_limits.ensures c.in_default.is) _ c.tally.ensures c.if-stored-tally-ge256.false c.if-self-ge64.false
+returns c = fine _ _ _ _ refl (taken_is _ _ c.edit_limits.ensures c.in_default.is) _ (c.tally.ensures ∙ ap (tallied c.args.self.messages) c.number.ensures) c.if-stored-tally-ge256.false c.if-self-ge64.false

@@ -44,10 +44,10 @@ overflow_add-n c = omega (arith, c.held.ensures, few c.tally.result _ _ c.tally.
 pub returns-in-Some : goal.returns-in-Some
 returns-in-Some c =
     let r = refused_is _ _ _ c.push_refusal.ensures c.in-Some.is in
-    other _ _ _ _ _ _ _ _ _ _ _ c.held.ensures c.tally.ensures r.0 (λ z. omega (arith, r.0, r.1, z))
+    other _ _ _ _ _ _ _ _ _ _ _ c.held.ensures (c.tally.ensures ∙ ap (tallied c.args.self.messages) c.number.ensures) r.0 (λ z. omega (arith, r.0, r.1, z))
 
 pub returns-then-self-ge64 : goal.returns-then-self-ge64
-returns-then-self-ge64 c = full _ _ _ _ _ _ _ _ _ _ _ c.held.ensures c.tally.ensures refl (taken_is _ _ c.push_refusal.ensures c.in_default.is) c.if-self-ge64.true
+returns-then-self-ge64 c = full _ _ _ _ _ _ _ _ _ _ _ c.held.ensures (c.tally.ensures ∙ ap (tallied c.args.self.messages) c.number.ensures) refl (taken_is _ _ c.push_refusal.ensures c.in_default.is) c.if-self-ge64.true
 
 pub returns : goal.returns
-returns c = fine _ _ _ _ _ _ _ _ _ _ _ c.held.ensures c.tally.ensures refl (taken_is _ _ c.push_refusal.ensures c.in_default.is) c.if-self-ge64.false
+returns c = fine _ _ _ _ _ _ _ _ _ _ _ c.held.ensures (c.tally.ensures ∙ ap (tallied c.args.self.messages) c.number.ensures) refl (taken_is _ _ c.push_refusal.ensures c.in_default.is) c.if-self-ge64.false

@@ -1,6 +1,6 @@
 -- `realseq::queues::Messages::tally` meets its contract. Assumes nothing.
 use Rattle.std.proofs.Common.{◌≡◌, ◌+◌, ◌-◌, ◌<◌, ◌≤◌, min, arith}
-use Rattle.realseq.specs.Queues.{kind_number, tally_from, at}
+use Rattle.realseq.specs.Queues.{tally_from, at}
 use Rattle.realseq.specs.QueueLaws.{tally_on, tally-none, counted-le, tally-start}
 use Rattle.realseq.proofs.queues.Messages.tally.Goals as goal
 
@@ -9,13 +9,13 @@ loop-i-init c = (omega arith, tally-start _ _)
 
 pub overflow_add-total : goal.overflow_add-total
 overflow_add-total c =
-    let h : c.counts-total.result ≤ 1 = rw c.counts-total.ensures (counted-le (at c.args.self c.loop-i.i) (kind_number c.args.kind)) in
+    let h : c.counts-total.result ≤ 1 = rw c.counts-total.ensures (counted-le (at c.args.self c.loop-i.i) c.args.kind) in
     omega (arith, h, c.loop-i.invariant.0)
 
 pub loop-i-preserved : goal.loop-i-preserved
 loop-i-preserved c =
     let q = c.args.self in
-    let k = kind_number c.args.kind in
+    let k = c.args.kind in
     let m = min q.count 64 in
     let i = c.loop-i.i in
     let h : c.counts-total.result ≤ 1 = rw c.counts-total.ensures (counted-le (at q i) k) in
@@ -28,4 +28,4 @@ returns c =
     let q = c.args.self in
     let m = min q.count 64 in
     let l : m ≤ c.loop-i.i = omega (arith, c.loop-i-test.false, c.min-i-end.ensures) in
-    omega (arith, tally-none m c.loop-i.i q (kind_number c.args.kind) l, c.loop-i.invariant.1)
+    omega (arith, tally-none m c.loop-i.i q c.args.kind l, c.loop-i.invariant.1)
