@@ -180,23 +180,15 @@ fn tell_record<W: Write>(
     let peak = loudest(samples, a.each);
     let still = tape_tracks::is_same(before.counts(), s.counts());
     let quiet_now = both(still, heard);
-    let laid = tape_tracks::laid_at(
-        both(refusal.is_none(), tape::reader::is_push(kind)),
-        s,
-        clip,
-    );
+    let accepted = both(refusal.is_none(), tape::reader::is_push(kind));
+    let laid = tape_tracks::laid_at(accepted, s, clip);
     let mut quiet = None;
     if quiet_now {
         quiet = Some(quieter(t.quiet, clock, peak));
     } else {
         tell_quiet(out, t.quiet)?;
-        tell_begin(
-            out,
-            clock,
-            kind,
-            tape_tracks::edited(call).unwrap_or(0),
-            refusal,
-        )?;
+        let edited = tape_tracks::edited(call).unwrap_or(0);
+        tell_begin(out, clock, kind, edited, refusal)?;
         if refusal.is_none() {
             tell_outcome(out, s, kind, told, clip, laid.unwrap_or(Standing::Waiting))?;
         }
